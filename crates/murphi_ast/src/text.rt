@@ -1,6 +1,7 @@
 //! Bytes that the program keeps, and the want of memory that keeping them may meet.
 
-ghost use Rattle.std.specs.Prelude.{◌≡◌, IfOk};
+ghost use Rattle.std.specs.Prelude.{◌≡◌, ◌↔◌, IfOk, IsTrue};
+ghost use Rattle.murphi_ast.specs.Bytes.{lowered};
 
 use std::alloc::{AllocError, AllocFailed, Global};
 use std::marker::Model;
@@ -52,6 +53,13 @@ impl Text {
         ensures { result.now ≡ self.now }
     {
         self.held.as_slice()
+    }
+
+    /// Whether the text is this word in any case, as key words are read.
+    pub fn eq_ignore_ascii_case(&self, word: &[u8]) -> bool
+        ensures { IsTrue result ↔ (lowered self.now ≡ lowered word.now) }
+    {
+        self.bytes().eq_ignore_ascii_case(word)
     }
 
     /// Another text of the same bytes.

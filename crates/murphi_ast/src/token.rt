@@ -35,6 +35,8 @@ pub struct Token {
 /// opened and not closed, and at a number above 32,767.
 #[derive(Clone, Copy, Debug, PartialEq, Eq)]
 pub enum Fault {
+    /// A byte that may not stand outside comments.
     E02(Span),
+    /// No token starts here.
     E03(Span),
 }

@@ -1,0 +1,6 @@
+use Rattle.std.proofs.Common.{take}
+use Rattle.clause_derivation.proofs.MarkLemmas.{AreMarkedToo}
+use Rattle.clause_derivation.proofs.marking.mark_all.Given as goal
+
+abbrev pub invariant-loop-l : goal.invariant-loop-l
+invariant-loop-l l = AreMarkedToo l.fn.marked l.marked (take l.l-index l.lits)
