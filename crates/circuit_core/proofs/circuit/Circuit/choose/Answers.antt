@@ -1,0 +1,5 @@
+use Rattle.circuit_core.proofs.EdgeLemmas.{keeps_edges}
+use Rattle.circuit_core.proofs.circuit.Circuit.choose.Goals as goal
+
+pub returns-in-Ok-clause-keeps : goal.returns-in-Ok-clause-keeps
+returns-in-Ok-clause-keeps c = keeps_edges _ _ c.by_inputs.ensures.grows

@@ -1,0 +1,4 @@
+pub mod WordLemmas
+pub mod ReportLemmas
+pub mod LineLemmas
+pub mod RunLemmas

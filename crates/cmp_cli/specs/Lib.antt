@@ -1,0 +1,6 @@
+-- The words of the contracts of the program.
+pub mod Words
+pub mod Report
+pub mod Titles
+pub mod Run
+pub mod Judged

@@ -1,0 +1,14 @@
+//! The program: its words, what it answers, its report, and the one call `run` that does all of it.
+#![tactic(auto)]
+
+mod lines;
+pub mod outcome;
+mod program;
+mod report;
+mod titles;
+pub mod words;
+
+pub use program::run;
+
+#[cfg(test)]
+mod tests;
