@@ -1,0 +1,1 @@
+var x : boolean; startstate "S" x := false; end; invariant "X" x = true;

@@ -1,0 +1,1 @@
+var a,b,c,d,e,f,g,h : boolean; startstate end

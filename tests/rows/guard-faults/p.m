@@ -1,0 +1,1 @@
+var a, b : boolean; startstate a := true; end; rule "R" b ==> a := false; end;

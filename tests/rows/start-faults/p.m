@@ -1,0 +1,1 @@
+var a, b : boolean; startstate "S" a := !b; end;

@@ -1,0 +1,1 @@
+startstate While @ end

@@ -1,0 +1,1 @@
+startstate "while" end -- const
