@@ -1,0 +1,4 @@
+pub mod TruthLemmas
+pub mod EncodeLemmas
+pub mod ReachLemmas
+pub mod CountLemmas
