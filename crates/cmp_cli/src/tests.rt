@@ -120,6 +120,46 @@ fn reads_and_writes_that_fail(rt: HostRuntime) -> Result<(), Fail> {
     Ok(())
 }
 
+/// A protocol whose invariant is inductive, and what is reported of it.
+const FLAT: &[u8] = b"var a, b : boolean;
+startstate \"Init\" a := true; b := false; end;
+rule \"Move\" a ==> a := false; b := true; end;
+rule \"Back\" b ==> a := true; b := false; end;
+invariant \"One\" a != b;
+";
+
+const PROVED: &[u8] = b"cmp 1
+answer proved
+node none
+claim nofault
+claim invariant \"One\"
+end
+";
+
+/// The read and the write that fail, the status, and how many bytes of the report were written: each
+/// line is one write, and the lines end at bytes 6, 20, 30, 44, 66 and 70.
+#[test]
+fn a_proof_that_is_cut_short(rt: HostRuntime) -> Result<(), Fail> {
+    for (read, write, status, count) in [
+        (0, 0, 0, 70),
+        (1, 0, 4, 0),
+        (1, 1, 4, 0),
+        (0, 1, 5, 0),
+        (0, 2, 5, 6),
+        (0, 3, 5, 20),
+        (0, 4, 5, 30),
+        (0, 5, 5, 44),
+        (0, 6, 5, 66),
+        (0, 7, 0, 70),
+    ] {
+        let seen = call(rt.alloc(), "check,--protocol,flat.m,", FLAT, read, write)?;
+        assert_eq!(rt; seen.status, status, "{read} {write}");
+        let want = PROVED.get(..count).unwrap_or(b"?");
+        assert_eq!(rt; seen.written.as_slice(), want, "{read} {write}");
+    }
+    Ok(())
+}
+
 /// A file of one byte too many.
 #[test]
 fn a_file_that_is_too_long(rt: HostRuntime) -> Result<(), Fail> {

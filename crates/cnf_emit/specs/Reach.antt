@@ -1,5 +1,5 @@
 -- Which nodes the roots of a circuit stand on, as sets of nodes and as marks.
-use Rattle.std.specs.Prelude.{◌≡◌, ℕ, ◌+◌, ◌<◌, ◌≤◌, ◌&&◌, Bool, true, false, List, [], ◌∷◌, length, All}
+use Rattle.std.specs.Prelude.{◌≡◌, ℕ, ◌+◌, ◌*◌, ◌<◌, ◌≤◌, ◌&&◌, Bool, true, false, List, [], ◌∷◌, length, All}
 use Rattle.std.specs.List.{slice_index_or}
 use Rattle.circuit_core.specs.declared.edge.Edge.{Edge}
 use Rattle.circuit_core.specs.declared.edge.Gate.{Gate}
@@ -50,6 +50,10 @@ conjunctions_in p n (g ∷ gates) = one_if (p n && is_conjunction g) + conjuncti
 -- how many nodes of a set need a variable of their own: the constant, and each conjunction
 unfoldable pub own_variables : (ℕ → Bool) → List Gate → ℕ
 own_variables p gates = one_if (p 0) + conjunctions_in p 1 gates
+
+-- how many clauses define the nodes of a set: one the constant, and three each conjunction
+unfoldable pub own_clauses : (ℕ → Bool) → List Gate → ℕ
+own_clauses p gates = one_if (p 0) + 3 * conjunctions_in p 1 gates
 
 -- the nodes that a gate stands on are marked
 abbrev pub HasMarks : List Bool → Gate → Type 0

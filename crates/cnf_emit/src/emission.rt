@@ -5,7 +5,7 @@ ghost use Rattle.clause_core.specs.Truth.{value_of, literal_true, all_true};
 ghost use Rattle.clause_core.specs.Formula.{IsInRange};
 ghost use Rattle.circuit_core.specs.Network.{IsEdge};
 ghost use Rattle.circuit_core.specs.Value.{edge_value};
-ghost use Rattle.cnf_emit.specs.Reach.{IsClosedFrom, IsClosedSet, HasRoots, IsWithin, own_variables};
+ghost use Rattle.cnf_emit.specs.Reach.{IsClosedFrom, IsClosedSet, HasRoots, IsWithin, own_variables, own_clauses};
 ghost use Rattle.cnf_emit.specs.Encoding.{Extends, IsUnique, Encodes};
 
 use crate::draft::Draft;
@@ -41,10 +41,12 @@ pub fn emit(alloc: Global, c: &Circuit, roots: &[Edge]) -> Result<Emitted, Memor
     ensures roots { IfOk result (λ m. (a : List Bool) → all_true a m.cnf.clauses ≡ true
         → map (literal_true a) m.roots.items ≡ map (edge_value c.now (value_of a)) roots.now) }
 
-    // Only what the roots stand on has variables of its own: no more than any set of nodes needs that
-    // has the roots and, with each gate, what it stands on.
+    // Only what the roots stand on is emitted: no more variables and no more clauses than any set of
+    // nodes needs that has the roots and, with each gate, what it stands on.
     ensures only { IfOk result (λ m. (p : ℕ → Bool) → IsClosedSet c.now.gates p → HasRoots p roots.now
         → m.cnf.variables ≤ c.now.inputs + own_variables p c.now.gates) }
+    ensures only_clauses { IfOk result (λ m. (p : ℕ → Bool) → IsClosedSet c.now.gates p
+        → HasRoots p roots.now → length m.cnf.clauses ≤ own_clauses p c.now.gates) }
 {
     let marks = reached(alloc, c, roots)?;
     let draft = drafted(alloc, c, &marks)?;
@@ -61,6 +63,8 @@ fn drafted(alloc: Global, c: &Circuit, marks: &[bool]) -> Result<Draft, Memory>
     ensures encodes { IfOk result (λ d. Encodes c.now marks.now d) }
     ensures few { IfOk result (λ d. (p : ℕ → Bool) → IsWithin marks.now p
         → d.variables ≤ c.now.inputs + own_variables p c.now.gates) }
+    ensures short { IfOk result (λ d. (p : ℕ → Bool) → IsWithin marks.now p
+        → length d.clauses ≤ own_clauses p c.now.gates) }
 {
     let inputs = c.inputs();
     let mut draft = Draft::make(alloc, inputs);

@@ -1,4 +1,4 @@
-use Rattle.std.proofs.Common.{sym, subst, arith}
+use Rattle.std.proofs.Common.{◌≡◌, length, sym, ap, subst, arith}
 use Rattle.cnf_emit.specs.Reach.{IsWithin}
 use Rattle.cnf_emit.proofs.EncodeLemmas.{formula_range, formula_roots, formula_extends}
 use Rattle.cnf_emit.proofs.emission.emit.Goals as goal
@@ -20,3 +20,8 @@ returns-clause-roots c =
 pub returns-clause-only : goal.returns-clause-only
 returns-clause-only c = λ p closed roots.
     omega (arith, c.in_ok-cnf.ensures.variables, c.in_ok-draft.ensures.few p (subst (λ l. IsWithin l p) (sym c.deref.ensures.value) (c.in_ok-marks.ensures.least p closed roots)))
+
+pub returns-clause-only_clauses : goal.returns-clause-only_clauses
+returns-clause-only_clauses c = λ p closed roots.
+    let same : length c.in_ok-cnf.cnf.clauses ≡ length c.in_ok-draft.draft.clauses = ap length c.in_ok-cnf.ensures.clauses in
+    omega (arith, same, c.in_ok-draft.ensures.short p (subst (λ l. IsWithin l p) (sym c.deref.ensures.value) (c.in_ok-marks.ensures.least p closed roots)))
