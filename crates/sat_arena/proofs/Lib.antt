@@ -1,0 +1,13 @@
+pub mod LiveLemmas
+pub mod PlaceLemmas
+pub mod LinkLemmas
+pub mod SlotLemmas
+pub mod DropLemmas
+pub mod ClauseLemmas
+pub mod ArenaLemmas
+pub mod CountLemmas
+pub mod ReadLemmas
+pub mod HalfLemmas
+pub mod NumberLemmas
+pub mod FilterLemmas
+pub mod CompactLemmas
