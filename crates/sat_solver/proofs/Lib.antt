@@ -1,0 +1,9 @@
+pub mod MarkLemmas
+pub mod TrailLemmas
+pub mod ScanLemmas
+pub mod StepLemmas
+pub mod NamingLemmas
+pub mod ArenaLemmas
+pub mod GrowLemmas
+pub mod DecideLemmas
+pub mod SolverLemmas

@@ -1,0 +1,6 @@
+use Rattle.std.proofs.Common.{sym, subst}
+use Rattle.sat_arena.specs.Live.{NoneTwice}
+use Rattle.sat_solver.proofs.analyze.analyze.Goals as goal
+
+pub returns-clause-once : goal.returns-clause-once
+returns-clause-once c = subst NoneTwice (sym c.make-2.ensures) c.in_ok-learned.ensures.once

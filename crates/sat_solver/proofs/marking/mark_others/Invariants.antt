@@ -1,0 +1,11 @@
+use Rattle.std.proofs.Common.{◌≡◌, ◌||◌, take}
+use Rattle.clause_core.specs.declared.literal.Lit.{Lit}
+use Rattle.clause_derivation.specs.Resolution.{has, without}
+use Rattle.clause_derivation.specs.Marking.{mark_of, AreWithin}
+use Rattle.sat_solver.proofs.marking.mark_others.Given as goal
+
+abbrev pub invariant-loop-l : goal.invariant-loop-l
+invariant-loop-l l = record {
+  within : AreWithin l.marked l.touched.items;
+  marks : (k : Lit) → mark_of l.marked k ≡ (mark_of l.fn.marked k || has (without (take l.l-index l.lits) l.but) k);
+}

@@ -1,0 +1,9 @@
+use Rattle.std.proofs.Common.{◌≡◌, ◌&&◌, take}
+use Rattle.std.specs.Prelude.{not}
+use Rattle.clause_core.specs.declared.literal.Lit.{Lit}
+use Rattle.clause_derivation.specs.Resolution.{has}
+use Rattle.clause_derivation.specs.Marking.{mark_of}
+use Rattle.sat_solver.proofs.marking.unmark_each.Given as goal
+
+abbrev pub invariant-loop-l : goal.invariant-loop-l
+invariant-loop-l l = (k : Lit) → mark_of l.marked k ≡ (mark_of l.fn.marked k && not (has (take l.l-index l.lits) k))
