@@ -14,3 +14,5 @@ mod tests;
 pub mod text;
 pub mod value;
 pub mod variables;
+#[cfg(test)]
+mod wrong_kinds;

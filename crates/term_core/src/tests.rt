@@ -14,25 +14,25 @@ use std::alloc::Global;
 use std::process::Abort;
 use std::test::Fail;
 
-const UNDEFINED: Value = Value::Undefined;
+pub const UNDEFINED: Value = Value::Undefined;
 
-const TRUE: Value = Value::Truth(true);
+pub const TRUE: Value = Value::Truth(true);
 
-const FALSE: Value = Value::Truth(false);
+pub const FALSE: Value = Value::Truth(false);
 
 /// The families of the machine: `p[]` of nodes, `x` from -2 to 5, `h[]` that is never undefined,
 /// and `m[][]` of truth values.
-const P: u32 = 0;
+pub const P: u32 = 0;
 
 const X: u32 = 1;
 
-const H: u32 = 2;
+pub const H: u32 = 2;
 
-const M: u32 = 3;
+pub const M: u32 = 3;
 
 /// A step that makes a term of those on top of a stack, the last on top.
 #[derive(Clone, Copy)]
-enum Make {
+pub enum Make {
     Known(Value),
     Var(u32),
     Read(u32, usize),
@@ -119,7 +119,7 @@ fn made_by(alloc: Global, stack: &mut Items<Term>, step: Make) -> Result<Term, M
 }
 
 /// The term that these steps make.
-fn term(alloc: Global, steps: &[Make]) -> Result<Term, Memory> {
+pub fn term(alloc: Global, steps: &[Make]) -> Result<Term, Memory> {
     let mut stack = Items::new(alloc);
     for step in steps {
         let made = made_by(alloc, &mut stack, *step)?;
@@ -197,7 +197,7 @@ const REFUSED: [(u32, &[u32], Value); 9] = [
 ];
 
 /// The value of a term in the sample, with node 1 and node N as its variables.
-fn value(rt: &impl Abort, alloc: Global, nodes: u32, t: &Term) -> Result<Value, Memory> {
+pub fn value(rt: &impl Abort, alloc: Global, nodes: u32, t: &Term) -> Result<Value, Memory> {
     let state = sample(rt, alloc, nodes)?;
     let mut frame = Frame::make(alloc, 4)?;
     assert!(rt; frame.spare() == 4);
@@ -217,7 +217,7 @@ struct Row {
     values: [Value; 3],
 }
 
-const A1: Value = Member { kind: 0, index: 1 };
+pub const A1: Value = Member { kind: 0, index: 1 };
 
 const A2: Value = Member { kind: 0, index: 2 };
 
