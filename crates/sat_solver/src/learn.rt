@@ -203,6 +203,8 @@ pub fn learn(
     ensures log { IsPrefix log.old log.new }
     ensures answer { IfOk result (λ o. IfSome o
         (IsAnswer cnf.now.clauses assumptions.now log.new)) }
+    // Each conflict takes one of the numbers that are left for chains.
+    ensures added { OnOk result (length log.new ≡ length log.old + 1) }
 {
     let place = log.items().len();
     let learned = explain(cnf, log, engine, conflict, depth)?;
