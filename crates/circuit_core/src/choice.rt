@@ -1,9 +1,9 @@
 //! Choices between edges: by a condition, and by fresh inputs.
 
-ghost use Rattle.std.specs.Prelude.{◌≡◌, ◌<◌, ◌≤◌, ℕ, Bool, All, Any, length, IfOk, OnErr, if◌then◌else◌};
+ghost use Rattle.std.specs.Prelude.{◌≡◌, ◌<◌, ◌≤◌, ◌+◌, ℕ, Bool, All, Any, length, IfOk, OnOk, OnErr, if◌then◌else◌};
 ghost use Rattle.circuit_core.specs.Network.{IsEdge};
 ghost use Rattle.circuit_core.specs.Value.{edge_value};
-ghost use Rattle.circuit_core.specs.Growth.{KeepsEdges, Grows, CanBe, IsEither};
+ghost use Rattle.circuit_core.specs.Growth.{KeepsEdges, Grows, Picks, CanBe};
 
 use crate::circuit::Circuit;
 use crate::edge::{Edge, not};
@@ -53,13 +53,13 @@ impl Circuit {
         Ok(not(neither))
     }
 
-    /// An edge whose value is that of any one of these, as fresh inputs say.
+    /// An edge whose value is that of any one of these, as fresh inputs say: which one depends on
+    /// them alone, and each is the one for some values of them.
     pub fn choose(&mut self, from: &[Edge]) -> Result<Edge, Memory>
         requires some { 0 < length from.now }
         requires edges { All (IsEdge self.old) from.now }
         ensures edge { IfOk result (λ e. IsEdge self.new e) }
-        ensures one { IfOk result (λ e. (x : ℕ → Bool)
-            → Any (λ f. edge_value self.new x e ≡ edge_value self.old x f) from.now) }
+        ensures one { IfOk result (λ e. (y : ℕ → Bool) → Any (Picks self.old self.new e y) from.now) }
         ensures each { IfOk result (λ e. All (CanBe self.old self.new e) from.now) }
         ensures keeps { KeepsEdges self.old self.new }
         ensures grows { Grows self.old self.new }
@@ -80,8 +80,7 @@ impl Circuit {
         requires some { 0 < length from.now }
         requires edges { All (IsEdge self.old) from.now }
         ensures edge { IfOk result (λ e. IsEdge self.new e) }
-        ensures one { IfOk result (λ e. (x : ℕ → Bool)
-            → Any (λ f. edge_value self.new x e ≡ edge_value self.old x f) from.now) }
+        ensures one { IfOk result (λ e. (y : ℕ → Bool) → Any (Picks self.old self.new e y) from.now) }
         ensures each { IfOk result (λ e. All (CanBe self.old self.new e) from.now) }
         ensures grows { Grows self.old self.new }
     {
@@ -92,15 +91,14 @@ impl Circuit {
         Ok(chosen)
     }
 
-    /// An edge whose value is that of `a` or that of `b`, as a fresh input says.
+    /// An edge whose value is that of `a` where a fresh input is true, and else that of `b`.
     fn either(&mut self, a: Edge, b: Edge) -> Result<Edge, Memory>
         requires a_edge { IsEdge self.old a }
         requires b_edge { IsEdge self.old b }
         ensures edge { IfOk result (λ e. IsEdge self.new e) }
-        ensures one { IfOk result (λ e. (x : ℕ → Bool) → IsEither (edge_value self.new x e)
-            (edge_value self.old x a) (edge_value self.old x b)) }
-        ensures first { IfOk result (λ e. CanBe self.old self.new e a) }
-        ensures second { IfOk result (λ e. CanBe self.old self.new e b) }
+        ensures value { IfOk result (λ e. (x : ℕ → Bool) → edge_value self.new x e
+            ≡ (if x self.old.inputs then edge_value self.old x a else edge_value self.old x b)) }
+        ensures inputs { OnOk result (self.new.inputs ≡ self.old.inputs + 1) }
         ensures grows { Grows self.old self.new }
     {
         let fresh = self.input()?;

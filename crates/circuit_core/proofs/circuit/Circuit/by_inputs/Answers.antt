@@ -11,7 +11,7 @@ either-requires-clause-a_edge c =
 pub loop-e-preserved : goal.loop-e-preserved
 loop-e-preserved c =
     next_choice c.args.self.now c.loop-e.self c.either.new.self c.loop-e.chosen c.in_ok-chosen.chosen c.args.from.now c.loop-e.e-index _ c.loop-e.invariant c.requires.edges c.loop-e-test.true
-    c.in_ok-chosen.ensures.edge c.in_ok-chosen.ensures.one c.in_ok-chosen.ensures.first c.in_ok-chosen.ensures.second c.either.ensures.grows
+    c.in_ok-chosen.ensures.edge c.in_ok-chosen.ensures.value c.in_ok-chosen.ensures.inputs c.either.ensures.grows
 
 pub returns-clause-one : goal.returns-clause-one
 returns-clause-one c = (whole_choice c.args.self.now c.loop-e.self c.loop-e.chosen c.args.from.now c.loop-e.e-index c.loop-e.invariant c.loop-e-test.false).one
