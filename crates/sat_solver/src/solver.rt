@@ -85,7 +85,7 @@ impl Solver {
     {
         let copy = c.copy(self.engine.alloc)?;
         let clauses = self.cnf.clauses().len();
-        if clauses + self.log.items().len() >= u32::MAX as usize {
+        if clauses + self.log.items().len() > u32::MAX as usize {
             return Err(Memory);
         }
         self.cnf.push(copy)?;
