@@ -2,3 +2,4 @@
 pub mod Literal
 pub mod Truth
 pub mod Formula
+pub mod Members

@@ -1,6 +1,7 @@
 //! Clauses: lists of literals, of which one has to be true.
 
 ghost use Rattle.std.specs.Prelude.{◌≡◌, ◌↔◌, IfOk, IsTrue};
+ghost use Rattle.clause_core.specs.Members.{has};
 
 use crate::assignment::Assignment;
 use crate::literal::Lit;
@@ -63,4 +64,11 @@ impl Clause {
     {
         self.items().iter().all(|l| l.variable() < variables)
     }
+}
+
+/// Whether the literal is one of these. It takes no memory.
+pub fn contains(lits: &[Lit], l: Lit) -> bool
+    ensures { result ≡ has lits.now l }
+{
+    lits.iter().any(|k| k.code == l.code)
 }

@@ -72,6 +72,15 @@ impl Cnf {
         self.clauses.push(c)?;
         Ok(())
     }
+
+    /// Makes the formula one over more variables, or as many. The clauses stay. It takes no memory.
+    pub fn raise_variables(&mut self, variables: u32)
+        requires { self.old.variables ≤ variables }
+        ensures variables { self.new.variables ≡ variables }
+        ensures clauses { self.new.clauses ≡ self.old.clauses }
+    {
+        self.variables = variables;
+    }
 }
 
 /// Whether the assignment satisfies each clause of the formula. It takes no memory.

@@ -11,9 +11,9 @@ pub mod literal;
 pub mod memory;
 
 pub use assignment::Assignment;
-pub use clause::Clause;
+pub use clause::{Clause, contains};
 pub use cnf::{Cnf, satisfies};
-pub use literal::Lit;
+pub use literal::{Lit, MOST_VARIABLES};
 pub use memory::Memory;
 
 #[cfg(test)]

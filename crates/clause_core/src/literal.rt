@@ -2,6 +2,9 @@
 
 ghost use Rattle.std.specs.Prelude.{◌≡◌, ◌^◌, ◌<◌, Bool, List, not};
 
+/// The most variables that literals can speak of.
+pub const MOST_VARIABLES: u32 = 1 << 31;
+
 /// A variable or its negation. Variables are numbered from 0 and stay below 2^31.
 #[derive(Clone, Copy, Debug, PartialEq, Eq)]
 pub struct Lit {

@@ -11,7 +11,8 @@ use Rattle.clause_core.specs.declared.literal.Lit.{Lit}
 use Rattle.clause_core.specs.Literal.{positive, negative}
 use Rattle.clause_derivation.specs.declared.chain.Chain.{Chain}
 use Rattle.clause_derivation.specs.declared.chain.Resolve.{Resolve}
-use Rattle.clause_derivation.specs.Resolution.{has, without, clash, others, chosen, resolvent}
+use Rattle.clause_derivation.specs.Resolution.{without, clash, others, chosen, resolvent}
+use Rattle.clause_core.specs.Members.{has}
 use Rattle.clause_derivation.specs.Derivation.{next, chain_end}
 use Rattle.clause_derivation.specs.Marking.{AreMarks, IsClear, AreWithin, Stepped, Ended, Unmarks}
 use Rattle.clause_derivation.specs.Numbering.{named, touched}
@@ -65,7 +66,7 @@ part_left c d l h = has-append c d l ∙ or_left (has c l) (has d l) h
 part_right : (c d : List Lit) → IsPart d (c ++ d)
 part_right c d l h = has-append c d l ∙ or_right (has c l) (has d l) h
 
-part_both : (c d e : List Lit) → IsPart c e → IsPart d e → IsPart (c ++ d) e
+pub part_both : (c d e : List Lit) → IsPart c e → IsPart d e → IsPart (c ++ d) e
 part_both c d e f g l h = elim (or_cases (has c l) (has d l) (sym (has-append c d l) ∙ h)) [ inl i ↦ f l i | inr j ↦ g l j ]
 
 and_first : (a b : Bool) → (a && b) ≡ true → a ≡ true
@@ -89,7 +90,7 @@ part_chosen true false x y e p q l h = p l h
 part_chosen false true x y e p q l h = q l h
 part_chosen false false x y e p q l h = cc
 
-part_resolved : (p : ℕ) (c : List Lit) (o : Option (List Lit)) → IsPart (lits_of (option_and_then (resolvent p c) o)) (c ++ lits_of o)
+pub part_resolved : (p : ℕ) (c : List Lit) (o : Option (List Lit)) → IsPart (lits_of (option_and_then (resolvent p c) o)) (c ++ lits_of o)
 part_resolved p c None l h = cc
 part_resolved p c (Some d) l h = part_chosen (clash c (positive p) d (negative p)) (clash c (negative p) d (positive p))
     (others c (positive p) d (negative p)) (others c (negative p) d (positive p)) (c ++ d)
@@ -103,7 +104,7 @@ part_next clauses (Some c) s l h = part_resolved s.pivot c (slice_get clauses s.
 abbrev pub named_by : List (List Lit) → List Resolve → List Lit
 named_by clauses steps = flat_map (λ s. named clauses s.with) steps
 
-part_steps : (clauses : List (List Lit)) (o : Option (List Lit)) (steps : List Resolve) → IsPart (lits_of (fold (next clauses) o steps)) (lits_of o ++ named_by clauses steps)
+pub part_steps : (clauses : List (List Lit)) (o : Option (List Lit)) (steps : List Resolve) → IsPart (lits_of (fold (next clauses) o steps)) (lits_of o ++ named_by clauses steps)
 part_steps clauses o [] l h = part_left (lits_of o) [] l h
 part_steps clauses o (s ∷ steps) l h =
     part_both (lits_of (next clauses o s)) (named_by clauses steps) (lits_of o ++ (named clauses s.with ++ named_by clauses steps))

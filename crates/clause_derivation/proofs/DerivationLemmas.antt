@@ -9,7 +9,8 @@ use Rattle.clause_core.specs.declared.literal.Lit.{Lit}
 use Rattle.clause_core.specs.Literal.{variable_of}
 use Rattle.clause_core.specs.Formula.{IsInRange, AreInRange}
 use Rattle.clause_derivation.specs.declared.chain.Chain.{Chain}
-use Rattle.clause_derivation.specs.Resolution.{has, IsSameSet}
+use Rattle.clause_derivation.specs.Resolution.{IsSameSet}
+use Rattle.clause_core.specs.Members.{has}
 use Rattle.clause_derivation.specs.Derivation.{chain_end, Derives, IsDerivation, results, singles}
 use Rattle.clause_derivation.specs.Marking.{mark_of, AreMarks, IsClear, AreWithin, Ended, Unmarks, HavePlaces}
 use Rattle.clause_derivation.specs.Numbering.{touched}

@@ -5,3 +5,5 @@ pub mod ChainLemmas
 pub mod DerivationLemmas
 pub mod SoundLemmas
 pub mod RenumberLemmas
+pub mod RangeLemmas
+pub mod TrimLemmas

@@ -5,7 +5,8 @@ use Rattle.std.proofs.lemmas.Bool.{both_ways, cases_eq, cases_lt, eq-eqb, ne_eqb
 use Rattle.std.proofs.lemmas.List.{get_or-set_same, get_or-set_other, get_or_past}
 use Rattle.std.proofs.lemmas.List.Folds.{list_any-append, list_any_more}
 use Rattle.clause_core.specs.declared.literal.Lit.{Lit}
-use Rattle.clause_derivation.specs.Resolution.{has, without}
+use Rattle.clause_derivation.specs.Resolution.{without}
+use Rattle.clause_core.specs.Members.{has}
 use Rattle.clause_derivation.specs.Marking.{mark_of, Unmarks}
 
 -- a mark after a write

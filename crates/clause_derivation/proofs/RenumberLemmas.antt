@@ -61,7 +61,7 @@ step_moved : (front back : List (List Lit)) (k : List Lit) (o : Option (List Lit
 step_moved front back k None s e few h = h
 step_moved front back k (Some c) s e few h = with_moved front back k c s e few (slice_get (front ++ back) s.with) refl h
 
-fold_none : (clauses : List (List Lit)) (steps : List Resolve) (e : List Lit) → fold (next clauses) None steps ≡ Some e → ⊥
+pub fold_none : (clauses : List (List Lit)) (steps : List Resolve) (e : List Lit) → fold (next clauses) None steps ≡ Some e → ⊥
 fold_none clauses steps e h = none-some e (sym (fold_stays (next clauses) None (λ s. refl) steps) ∙ h)
 
 -- what is left after the steps is left still

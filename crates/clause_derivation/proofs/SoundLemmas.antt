@@ -11,7 +11,8 @@ use Rattle.clause_core.specs.Literal.{positive, negative}
 use Rattle.clause_core.specs.Truth.{value_of, literal_true, clause_true, all_true}
 use Rattle.clause_derivation.specs.declared.chain.Chain.{Chain}
 use Rattle.clause_derivation.specs.declared.chain.Resolve.{Resolve}
-use Rattle.clause_derivation.specs.Resolution.{has, without, clash, others, chosen, resolvent, IsSameSet}
+use Rattle.clause_derivation.specs.Resolution.{without, clash, others, chosen, resolvent, IsSameSet}
+use Rattle.clause_core.specs.Members.{has}
 use Rattle.clause_derivation.specs.Derivation.{next, chain_end, Derives, IsDerivation, results, singles, EndsEmpty, HoldsUnder}
 use Rattle.clause_derivation.proofs.MarkLemmas.{and_split}
 

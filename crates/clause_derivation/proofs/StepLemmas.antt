@@ -7,7 +7,8 @@ use Rattle.std.proofs.lemmas.List.Folds.{list_any_none}
 use Rattle.std.proofs.lemmas.List.Elements.{All-weaker}
 use Rattle.clause_core.specs.declared.literal.Lit.{Lit}
 use Rattle.clause_core.specs.Literal.{positive, negative}
-use Rattle.clause_derivation.specs.Resolution.{has, without, clash, others, chosen, resolvent}
+use Rattle.clause_derivation.specs.Resolution.{without, clash, others, chosen, resolvent}
+use Rattle.clause_core.specs.Members.{has}
 use Rattle.clause_derivation.specs.Marking.{mark_of, AreMarks, HavePlaces, LosesMark, Stepped}
 use Rattle.clause_derivation.proofs.MarkLemmas.{has-append, has-without, AreMarkedToo}
 

@@ -1,5 +1,5 @@
 -- Derivations: chains of resolution steps, each from clauses that have earlier numbers.
-use Rattle.std.specs.Prelude.{◌≡◌, ◌-◌, Bool, IsTrue, length, option_map, List, [], ◌∷◌, ◌++◌, map, Option, Some, None, IsSomeAnd, slice_get, fold}
+use Rattle.std.specs.Prelude.{◌≡◌, ◌-◌, ◌<◌, ℕ, All, Bool, IsTrue, length, option_map, List, [], ◌∷◌, ◌++◌, map, Option, Some, None, IsSomeAnd, slice_get, fold}
 use Rattle.std.specs.List.{list_all}
 use Rattle.std.specs.Option.{option_and_then}
 use Rattle.clause_core.specs.declared.literal.Lit.{Lit}
@@ -37,9 +37,17 @@ results chains = map (λ ch. ch.result) chains
 abbrev pub singles : List Lit → List (List Lit)
 singles units = map (λ l. l ∷ []) units
 
+-- what the last chain is to derive, if there is one
+abbrev pub last_result : List Chain → Option (List Lit)
+last_result chains = option_map (λ ch. ch.result) (slice_get chains (length chains - 1))
+
 -- the last chain is the empty clause
 abbrev pub EndsEmpty : List Chain → Type 0
-EndsEmpty chains = option_map (λ ch. ch.result) (slice_get chains (length chains - 1)) ≡ Some []
+EndsEmpty chains = last_result chains ≡ Some []
+
+-- each step of each chain is on one of the first n variables
+abbrev pub ArePivotsInRange : ℕ → List Chain → Type 0
+ArePivotsInRange n chains = All (λ ch. All (λ s. s.pivot < n) ch.steps) chains
 
 -- an assignment satisfies the clauses of a formula, more clauses, and units
 pub record HoldsUnder (a : List Bool) (cnf more : List (List Lit)) (units : List Lit) : Type 0 where

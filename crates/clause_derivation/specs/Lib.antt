@@ -5,3 +5,4 @@ pub mod Numbering
 pub mod Ready
 pub mod Renumbering
 pub mod Marking
+pub mod Trimming

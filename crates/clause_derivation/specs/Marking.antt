@@ -2,7 +2,7 @@
 use Rattle.std.specs.Prelude.{◌≡◌, ◌==◌, ◌<◌, ◌&&◌, if◌then◌else◌, ℕ, Bool, true, false, not, List, Option, Some, None, All}
 use Rattle.std.specs.List.{slice_index_or}
 use Rattle.clause_core.specs.declared.literal.Lit.{Lit}
-use Rattle.clause_derivation.specs.Resolution.{has}
+use Rattle.clause_core.specs.Members.{has}
 
 -- whether a literal is marked
 abbrev pub mark_of : List Bool → Lit → Bool

@@ -1,12 +1,8 @@
 -- Clauses as sets of literals, and the resolution rule.
 use Rattle.std.specs.Prelude.{◌≡◌, ◌==◌, ◌++◌, ◌&&◌, ℕ, Bool, true, false, not, List, Option, Some, None, filter}
-use Rattle.std.specs.List.{list_any}
 use Rattle.clause_core.specs.declared.literal.Lit.{Lit}
 use Rattle.clause_core.specs.Literal.{positive, negative}
-
--- whether a clause has a literal
-abbrev pub has : List Lit → Lit → Bool
-has c l = list_any (λ k. k.code == l.code) c
+use Rattle.clause_core.specs.Members.{has}
 
 -- all other literals of a clause
 abbrev pub without : List Lit → Lit → List Lit

@@ -1,6 +1,6 @@
 //! Chains of resolution steps, and logs of chains.
 
-ghost use Rattle.std.specs.Prelude.{◌≡◌, ◌+◌, ◌<◌, ◌^◌, ◌↔◌, List, [], ◌∷◌, ◌++◌, length, map, IsTrue, OnOk, OnErr};
+ghost use Rattle.std.specs.Prelude.{◌≡◌, ◌+◌, ◌<◌, ◌^◌, ◌↔◌, List, [], ◌∷◌, ◌++◌, length, map, take, IsTrue, IfOk, OnOk, OnErr};
 ghost use Rattle.clause_derivation.specs.Renumbering.{moved as moved_number, moved_step, moved_chain};
 
 use clause_core::{Clause, Memory};
@@ -105,6 +105,21 @@ pub struct Chain {
     pub result: Clause,
 }
 
+impl Chain {
+    /// Another chain of the same steps and result.
+    pub fn copy(&self, alloc: Global) -> Result<Chain, Memory>
+        ensures { IfOk result (λ c. c ≡ self.now) }
+    {
+        let steps = self.steps.items().to_vec(alloc)?;
+        let result = self.result.copy(alloc)?;
+        Ok(Chain {
+            first: self.first,
+            steps: Steps::make(alloc, steps),
+            result,
+        })
+    }
+}
+
 /// Chains in order. Contracts see the list.
 #[derive(Debug, Drop)]
 pub struct Log {
@@ -146,6 +161,28 @@ impl Log {
             Some(last) => last.result.items().is_empty(),
             None => false,
         }
+    }
+
+    /// Another log of the same chains.
+    pub fn copy(&self, alloc: Global) -> Result<Log, Memory>
+        ensures { IfOk result (λ g. g ≡ self.now) }
+    {
+        let mut chains = Vec::with_capacity(alloc, self.items().len())?;
+        for chain in self.items() {
+            let c = chain.copy(alloc)?;
+            chains.push(c)?;
+        }
+        Ok(Log { chains })
+    }
+
+    /// Keeps the first chains, this many, and takes the others out. It takes no memory.
+    pub fn truncate(&mut self, count: usize)
+        ensures value { self.new ≡ take count self.old }
+        // A log that is a derivation stays one.
+        ensures stays { (clauses : List (List Literal)) → IsDerivation clauses self.old
+            → IsDerivation clauses self.new }
+    {
+        self.chains.truncate(count);
     }
 
     /// Makes room for a clause before the chains: each number from `at` on rises by one. A log that

@@ -1,11 +1,11 @@
 //! The check of a log: whether each chain derives its result.
 
-ghost use Rattle.std.specs.Prelude.{◌≡◌, ◌≤◌, ◌++◌, ◌↔◌, Bool, List, IsTrue};
+ghost use Rattle.std.specs.Prelude.{◌≡◌, ◌≤◌, ◌++◌, ◌↔◌, ℕ, Bool, List, IsTrue};
 ghost use Rattle.clause_core.specs.declared.literal.Lit.{Lit as Literal};
 ghost use Rattle.clause_core.specs.Truth.{all_true};
 ghost use Rattle.clause_core.specs.Formula.{AreInRange};
 ghost use Rattle.clause_derivation.specs.declared.chain.Chain.{Chain};
-ghost use Rattle.clause_derivation.specs.Derivation.{IsDerivation, EndsEmpty, HoldsUnder, results, singles};
+ghost use Rattle.clause_derivation.specs.Derivation.{ArePivotsInRange, IsDerivation, EndsEmpty, HoldsUnder, results, singles};
 
 use crate::chain::Log;
 use crate::checking::check_chains;
@@ -73,4 +73,13 @@ pub fn derivations_hold()
     ensures refuted { (clauses : List (List Literal)) (chains : List Chain)
         → IsDerivation clauses chains → EndsEmpty chains
         → (a : List Bool) → IsTrue (all_true a clauses) → ⊥ }
+{}
+
+/// The law of ranges: where the clauses are over the first n variables, so are all results of a
+/// derivation from them, and each step is on one of these variables. It does nothing.
+pub fn derivations_stay_in_range()
+    ensures results { (n : ℕ) (clauses : List (List Literal)) (chains : List Chain)
+        → AreInRange n clauses → IsDerivation clauses chains → AreInRange n (results chains) }
+    ensures pivots { (n : ℕ) (clauses : List (List Literal)) (chains : List Chain)
+        → AreInRange n clauses → IsDerivation clauses chains → ArePivotsInRange n chains }
 {}

@@ -7,10 +7,12 @@ pub mod derivation;
 mod marking;
 pub mod marks;
 mod numbering;
+pub mod trimming;
 
 pub use chain::{Chain, Log, Resolve, Steps};
 pub use derivation::{check, check_under};
 pub use marks::Marks;
+pub use trimming::trim;
 
 #[cfg(test)]
 mod tests;

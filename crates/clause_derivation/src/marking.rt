@@ -3,10 +3,11 @@
 ghost use Rattle.std.specs.Prelude.{◌≡◌, ◌&&◌, ◌||◌, ◌≤◌, ◌^◌, List, length};
 ghost use Rattle.std.specs.List.{list_all};
 ghost use Rattle.clause_core.specs.declared.literal.Lit.{Lit as Literal};
-ghost use Rattle.clause_derivation.specs.Resolution.{has, without, others, resolvent};
+ghost use Rattle.clause_derivation.specs.Resolution.{without, others, resolvent};
+ghost use Rattle.clause_core.specs.Members.{has};
 ghost use Rattle.clause_derivation.specs.Marking.{mark_of, AreMarks, HavePlaces, LosesMark, Stepped, Unmarks};
 
-use clause_core::Lit;
+use clause_core::{Lit, contains};
 
 /// Whether the literal is marked.
 pub fn is_marked(marked: &[bool], l: Lit) -> bool
@@ -14,13 +15,6 @@ pub fn is_marked(marked: &[bool], l: Lit) -> bool
 {
     let at = l.code as usize;
     if at < marked.len() { marked[at] } else { false }
-}
-
-/// Whether the literal is one of these.
-pub fn contains(lits: &[Lit], l: Lit) -> bool
-    ensures { result ≡ has lits.now l }
-{
-    lits.iter().any(|k| k.code == l.code)
 }
 
 /// Whether every one of these literals is marked.

@@ -3,12 +3,9 @@
 ghost use Rattle.std.specs.Prelude.{◌≡◌, ◌+◌, ◌*◌, ◌<◌, [], ◌∷◌, ◌++◌, IfOk, length};
 ghost use Rattle.clause_core.specs.Literal.{variable_of};
 
-use clause_core::{Lit, Memory};
+use clause_core::{Lit, MOST_VARIABLES, Memory};
 use std::alloc::Global;
 use std::marker::Model;
-
-/// The most variables that literals can speak of.
-const MOST_VARIABLES: u32 = 1 << 31;
 
 /// Room to check logs over a number of variables, and unit clauses that a check stands on.
 /// Contracts see a `MarkScope`: the number of variables, and the units in the order of adding.

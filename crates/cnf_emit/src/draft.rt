@@ -4,12 +4,9 @@ ghost use Rattle.std.specs.Prelude.{◌≡◌, ◌+◌, ◌-◌, ◌<◌, ◌^�
 
 use crate::clauses::{formula_of, pair, single, triple};
 use circuit_core::{Edge, Gate};
-use clause_core::{Clause, Cnf, Lit, Memory};
+use clause_core::{Clause, Cnf, Lit, MOST_VARIABLES, Memory};
 use std::alloc::Global;
 use std::marker::Model;
-
-/// The most variables of a formula.
-const MOST_VARIABLES: u32 = 1 << 31;
 
 /// What has been emitted so far. Contracts see a `Sketch`.
 #[derive(Debug, Drop)]

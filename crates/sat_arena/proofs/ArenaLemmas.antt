@@ -10,7 +10,8 @@ use Rattle.clause_core.specs.declared.literal.Lit.{Lit}
 use Rattle.clause_core.specs.Formula.{IsInRange}
 use Rattle.sat_arena.specs.declared.id.ClauseId.{ClauseId}
 use Rattle.sat_arena.specs.declared.slot.Slot.{Slot}
-use Rattle.sat_arena.specs.Live.{Store, NoneTwice, IdsDiffer}
+use Rattle.sat_arena.specs.Live.{Store, IdsDiffer}
+use Rattle.clause_core.specs.Members.{NoneTwice}
 use Rattle.sat_arena.specs.Linking.{lits_of, live_from, position, stands_at, IsLinked, IsKept, IsArena, added}
 use Rattle.sat_arena.proofs.PlaceLemmas.{get_end, get_left}
 use Rattle.sat_arena.proofs.LinkLemmas.{id_at, linked_none, linked_same, linked_push, no_ids}

@@ -12,7 +12,7 @@ use Rattle.clause_core.specs.declared.literal.Lit.{Lit}
 use Rattle.clause_core.specs.Literal.{variable_of}
 use Rattle.clause_core.specs.Formula.{IsInRange}
 use Rattle.sat_arena.specs.declared.id.ClauseId.{ClauseId}
-use Rattle.sat_arena.specs.Live.{times, NoneTwice}
+use Rattle.clause_core.specs.Members.{times, NoneTwice}
 use Rattle.sat_arena.specs.Linking.{IsKept, position_in, says_swapped}
 
 -- what a clause says, by its first two literals

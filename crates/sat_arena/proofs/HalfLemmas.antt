@@ -9,7 +9,7 @@ use Rattle.clause_core.specs.declared.literal.Lit.{Lit}
 use Rattle.clause_core.specs.Literal.{variable_of}
 use Rattle.sat_arena.specs.declared.id.ClauseId.{ClauseId}
 use Rattle.sat_arena.specs.declared.slot.Slot.{Slot}
-use Rattle.sat_arena.specs.Live.{NoneTwice}
+use Rattle.clause_core.specs.Members.{NoneTwice}
 use Rattle.sat_arena.specs.Linking.{lits_of, position, stands_at, IsLinked, IsLinkedBut, IsKept, IsArena, position_in, added, says_swapped}
 use Rattle.sat_arena.proofs.LinkLemmas.{id_at, linked_same, linked_push, linked_hidden, linked_within}
 use Rattle.sat_arena.proofs.SlotLemmas.{lits_set, stands_here, stands_other, stands_is, stands_kept}

@@ -10,7 +10,8 @@ use Rattle.clause_core.specs.declared.literal.Lit.{Lit}
 use Rattle.clause_core.specs.Formula.{IsInRange}
 use Rattle.sat_arena.specs.declared.id.ClauseId.{ClauseId}
 use Rattle.sat_arena.specs.declared.slot.Slot.{Slot}
-use Rattle.sat_arena.specs.Live.{Store, IsLive, NoneTwice, literals, is_watched, times_listed}
+use Rattle.sat_arena.specs.Live.{Store, IsLive, literals, is_watched, times_listed}
+use Rattle.clause_core.specs.Members.{NoneTwice}
 use Rattle.sat_arena.specs.Linking.{lits_of, live_from, position, stands_at, IsKept, IsArena}
 use Rattle.sat_arena.proofs.LiveLemmas.{literals_at, live_filled, filled_live, live_within}
 use Rattle.sat_arena.proofs.ClauseLemmas.{among_two, says_among, among_filled}

@@ -6,7 +6,8 @@ use Rattle.clause_core.specs.declared.literal.Lit.{Lit}
 use Rattle.clause_core.specs.Formula.{IsInRange}
 use Rattle.sat_arena.specs.declared.id.ClauseId.{ClauseId}
 use Rattle.sat_arena.specs.declared.slot.Slot.{Slot}
-use Rattle.sat_arena.specs.Live.{Entry, NoneTwice}
+use Rattle.sat_arena.specs.Live.{Entry}
+use Rattle.clause_core.specs.Members.{NoneTwice}
 
 -- the literals of each slot; a slot without literals is empty
 abbrev pub lits_of : List Slot → List (List Lit)

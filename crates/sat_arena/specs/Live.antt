@@ -14,14 +14,6 @@ pub record Store : Type 0 where
   pub variables : ℕ
   pub live : List Entry
 
--- how often a literal stands in a clause
-abbrev pub times : Lit → List Lit → ℕ
-times l c = count_by (λ k. k.code == l.code) c
-
--- no literal stands in a clause twice
-abbrev pub NoneTwice : List Lit → Type 0
-NoneTwice c = (l : Lit) → times l c ≤ 1
-
 -- a live clause has this id
 abbrev pub IsLive : List Entry → ClauseId → Type 0
 IsLive live id = IsTrue (list_any (λ e. e.place == id.place) live)

@@ -3,19 +3,17 @@
 ghost use Rattle.std.specs.Prelude.{◌≡◌, ◌↔◌, ◌<◌, ◌≤◌, if◌then◌else◌, [], ◌∷◌, ◌++◌, length, map, All, IsTrue, IfOk, OnOk, OnErr};
 ghost use Rattle.clause_core.specs.Literal.{variable_of};
 ghost use Rattle.clause_core.specs.Formula.{IsInRange};
-ghost use Rattle.sat_arena.specs.Live.{NoneTwice, IsLive, IdsDiffer, literals, is_watched, times_listed, without, with_swapped, clauses_of, renamed};
+ghost use Rattle.sat_arena.specs.Live.{IsLive, IdsDiffer, literals, is_watched, times_listed, without, with_swapped, clauses_of, renamed};
+ghost use Rattle.clause_core.specs.Members.{NoneTwice};
 
 use crate::compacting::{drop_empty, number, rename, rename_all};
 use crate::id::ClauseId;
 use crate::slot::Slot;
 use crate::watch_list::{WatchList, empty_lists};
 use crate::watching::{add_watches, drop_watch};
-use clause_core::{Clause, Lit, Memory};
+use clause_core::{Clause, Lit, MOST_VARIABLES, Memory};
 use std::alloc::Global;
 use std::marker::Model;
-
-/// The most variables that literals can speak of.
-const MOST_VARIABLES: u32 = 1 << 31;
 
 /// A store of clauses over a number of variables, each watched at its first two literals. Contracts
 /// see a `Store`: the number of variables, and the live clauses in the order of adding. A live

@@ -2,7 +2,7 @@
 
 ghost use Rattle.std.specs.Prelude.{◌≡◌, ◌==◌, ◌+◌, ◌<◌, ◌≤◌, if◌then◌else◌, ℕ, length, Some, None, IsSome};
 ghost use Rattle.std.specs.List.{swap, slice_index_or};
-ghost use Rattle.sat_arena.specs.Live.{NoneTwice};
+ghost use Rattle.clause_core.specs.Members.{NoneTwice};
 ghost use Rattle.clause_core.specs.declared.literal.Lit.{Lit as Literal};
 ghost use Rattle.sat_arena.specs.Linking.{position, says_swapped};
 

@@ -2,7 +2,8 @@
 
 ghost use Rattle.std.specs.Prelude.{◌≡◌, ◌==◌, IsTrue, IfOk, All};
 ghost use Rattle.std.specs.List.{list_any};
-ghost use Rattle.sat_arena.specs.Live.{NoneTwice, IsLive};
+ghost use Rattle.sat_arena.specs.Live.{IsLive};
+ghost use Rattle.clause_core.specs.Members.{NoneTwice};
 
 use crate::{Arena, ClauseId};
 use clause_core::{Clause, Lit};

@@ -7,7 +7,7 @@ use Rattle.std.proofs.lemmas.List.{append_assoc, append-nil}
 use Rattle.std.proofs.lemmas.List.Elements.{All-append, All-weaker, All-take, All-push, recursion_from_All}
 use Rattle.clause_core.specs.declared.literal.Lit.{Lit}
 use Rattle.clause_core.specs.Literal.{opposite}
-use Rattle.clause_derivation.specs.Resolution.{has}
+use Rattle.clause_core.specs.Members.{has}
 use Rattle.sat_solver.specs.declared.entry.Entry.{Entry}
 use Rattle.sat_solver.specs.declared.origin.Origin.{Origin}
 use Rattle.sat_solver.specs.Naming.{IsKnown}

@@ -5,11 +5,10 @@ use Rattle.std.proofs.lemmas.Bool.{both_ways, cases_eq, cases_lt, eq-eqb, ne_eqb
 use Rattle.std.proofs.lemmas.List.{get_or-set_same, get_or-set_other, get_or_past}
 use Rattle.std.proofs.lemmas.List.Folds.{list_any-append, list_any_more}
 use Rattle.clause_core.specs.declared.literal.Lit.{Lit}
-use Rattle.clause_derivation.specs.Resolution.{has}
+use Rattle.clause_core.specs.Members.{has, times}
 use Rattle.std.proofs.lemmas.List.Sums.{sum_by-append}
 use Rattle.std.proofs.lemmas.List.Elements.{All-push}
 use Rattle.clause_derivation.specs.Marking.{mark_of, AreWithin, LosesMark, HavePlaces}
-use Rattle.sat_arena.specs.Live.{times}
 
 -- a mark after a write
 pub mark_of-set : (m : List Bool) (at : ℕ) (b : Bool) (k : Lit) → at < length m → mark_of (set m at b) k ≡ cond (eqb at k.code) b (mark_of m k)

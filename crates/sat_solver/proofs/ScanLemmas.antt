@@ -6,7 +6,7 @@ use Rattle.std.proofs.lemmas.List.{take_more, take_all}
 use Rattle.std.proofs.lemmas.List.Elements.{All-push, All-weaker, recursion_from_All}
 use Rattle.std.specs.List.{AllByRecursion}
 use Rattle.clause_core.specs.declared.literal.Lit.{Lit}
-use Rattle.clause_derivation.specs.Resolution.{has}
+use Rattle.clause_core.specs.Members.{has}
 use Rattle.sat_solver.specs.Assigned.{is_false, AllFalse, IsUnit, IsOpen, differs}
 use Rattle.sat_solver.proofs.MarkLemmas.{has_push}
 use Rattle.sat_solver.proofs.TrailLemmas.{lit_eq}

@@ -1,17 +1,18 @@
 -- What a solver keeps where the log gains a chain, and what cores say.
-use Rattle.std.proofs.Common.{◌≡◌, ℕ, ◌+◌, ◌*◌, ◌<◌, ◌≤◌, ◌^◌, ◌++◌, ◌&&◌, zero, suc, Bool, true, false, List, [], ◌∷◌, length, get_or, take, map, eqb, refl, sym, ◌∙◌, ap, subst, inl, inr, arith, Option, Some, None}
+use Rattle.std.proofs.Common.{◌≡◌, ℕ, ◌+◌, ◌-◌, ◌*◌, ◌%◌, ◌<◌, ◌≤◌, ◌^◌, ◌++◌, ◌&&◌, cond, zero, suc, Bool, true, false, List, [], ◌∷◌, length, get_or, take, map, eqb, refl, sym, ◌∙◌, ap, subst, inl, inr, arith, Option, Some, None}
 use Rattle.std.specs.Prelude.{All, IfSome, IsSomeAnd, IsTrue, slice_get, option_map, not}
 use Rattle.std.specs.List.{list_all, AllByRecursion}
-use Rattle.std.proofs.lemmas.Bool.{both_ways, or_cases, or_left, or_right, eq-eqb, eqb-true}
+use Rattle.std.proofs.lemmas.Bool.{both_ways, or_cases, eq-eqb, eqb-true, ne_eqb, cases_eq}
 use Rattle.std.proofs.lemmas.List.{append_assoc, map_push, length-append, take_more}
 use Rattle.std.proofs.lemmas.List.Elements.{All-push, All-append, All-weaker, recursion_from_All, All-from_recursion}
+use Rattle.std.proofs.lemmas.List.Sums.{sum_by-cons}
 use Rattle.std.proofs.lemmas.Option.{slice_get-map}
 use Rattle.clause_core.specs.declared.literal.Lit.{Lit}
 use Rattle.clause_core.specs.Literal.{variable_of, opposite}
-use Rattle.clause_core.specs.Formula.{IsInRange, AreInRange}
+use Rattle.clause_core.specs.Formula.{Formula, IsInRange, AreInRange}
 use Rattle.clause_derivation.specs.declared.chain.Chain.{Chain}
 use Rattle.clause_derivation.specs.Derivation.{results}
-use Rattle.clause_derivation.specs.Resolution.{has}
+use Rattle.clause_core.specs.Members.{has, times, NoneTwice}
 use Rattle.clause_derivation.specs.Marking.{HavePlaces}
 use Rattle.sat_solver.specs.declared.verdict.Verdict.{Verdict}
 use Rattle.sat_solver.specs.declared.verdict.Verdict.TheVariants.{Satisfied, Core}
@@ -25,7 +26,6 @@ use Rattle.sat_solver.specs.Searching.{AreTrue}
 use Rattle.sat_solver.specs.Answers.{AreOpposites, IsCore, IsAnswer, IfCore}
 use Rattle.sat_solver.proofs.NamingLemmas.{slice_get-append_right, some_same}
 use Rattle.sat_solver.proofs.TrailLemmas.{opposite_turned}
-use Rattle.sat_solver.proofs.ScanLemmas.{all_has}
 
 -- one more literal whose opposite is there
 pub opposites_more : (used c : List Lit) (i : ℕ) (d : Lit) → i < length c → AreOpposites used (take i c) → has used (opposite (get_or c i d)) ≡ true → AreOpposites used (take (i + 1) c)
@@ -67,35 +67,59 @@ last_chain log ch c e = subst (λ o. IsSomeAnd o (λ (x : Chain). x.result ≡ c
 pub grows_at : (n k m j : ℕ) (es fs : List Entry) → n ≡ m → k ≡ j → Grows n k es fs → Grows m j es fs
 grows_at n k m j es fs e f g = subst (λ x. Grows x j es fs) e (subst (λ y. Grows n y es fs) f g)
 
-has_map : (c : List Lit) (l : Lit) → has c l ≡ true → has (map opposite c) (opposite l) ≡ true
-has_map [] l h = cc
-has_map (x ∷ c) l h = elim (or_cases (eqb x.code l.code) (has c l) h) [
-  | inl e ↦ or_left (eqb (opposite x).code (opposite l).code) (has (map opposite c) (opposite l)) (eq-eqb (opposite x).code (opposite l).code (let f : ℕ → ℕ = λ n. (opposite (record { code = n })).code in ap f (eqb-true x.code l.code e)))
-  | inr i ↦ or_right (eqb (opposite x).code (opposite l).code) (has (map opposite c) (opposite l)) (has_map c l i)
-]
-
 among_by : (lits c : List Lit) → AllByRecursion (λ l. has lits (opposite l) ≡ true) c → AllByRecursion (λ l. has lits l ≡ true) (map opposite c)
 among_by lits [] h = tt
 among_by lits (x ∷ c) h = (h.0, among_by lits c h.1)
 
-own_by : (c d : List Lit) → ((l : Lit) → has d l ≡ true → has c l ≡ true) → AllByRecursion (λ l. has (map opposite c) (opposite l) ≡ true) d
-own_by c [] f = tt
-own_by c (x ∷ d) f = (has_map c x (f x (or_left (eqb x.code x.code) (has d x) (eq-eqb x.code x.code refl))), own_by c d (λ l h. f l (or_right (eqb x.code l.code) (has d l) h)))
+-- the opposite of the opposite is the literal itself
 
-none_of : (c : List Lit) → map opposite c ≡ [] → c ≡ []
-none_of [] e = refl
-none_of (x ∷ c) e = cc
+back : (n : ℕ) → (opposite (opposite (record { code = n }))).code ≡ n
+back n = elim (cases_eq (n % 2) 1) [
+  | inl o ↦
+      let down : (opposite (record { code = n })).code ≡ n - 1 = rw (eq-eqb (n % 2) 1 o) refl in
+      let even : (n - 1) % 2 ≡ 0 = omega arith in
+      ap (λ k. (opposite (record { code = k })).code) down ∙ rw (ne_eqb ((n - 1) % 2) 1 (λ e. absurd (omega arith))) (omega arith)
+  | inr e ↦
+      let up : (opposite (record { code = n })).code ≡ n + 1 = rw (ne_eqb (n % 2) 1 e) refl in
+      let even : n % 2 ≡ 0 = omega arith in
+      let odd : (n + 1) % 2 ≡ 1 = omega arith in
+      ap (λ k. (opposite (record { code = k })).code) up ∙ rw (eq-eqb ((n + 1) % 2) 1 odd) (omega arith)
+]
+
+opposite_back : (l : Lit) → opposite (opposite l) ≡ l
+opposite_back l = ap (λ n. record { code = n }) (back l.code)
+
+pub opposites_back : (c : List Lit) → map opposite (map opposite c) ≡ c
+opposites_back [] = refl
+opposites_back (l ∷ c) = ap (λ k. k ∷ map opposite (map opposite c)) (opposite_back l) ∙ ap (λ d. l ∷ d) (opposites_back c)
+
+same_tests : (m n : ℕ) → eqb (opposite (record { code = m })).code n ≡ eqb m (opposite (record { code = n })).code
+same_tests m n = go (eqb (opposite (record { code = m })).code n) (eqb m (opposite (record { code = n })).code) refl refl where
+  code_of : (k : ℕ) → ℕ
+  code_of k = (opposite (record { code = k })).code
+
+  go : (a b : Bool) → eqb (opposite (record { code = m })).code n ≡ a → eqb m (opposite (record { code = n })).code ≡ b → a ≡ b
+  go true true e g = refl
+  go false false e g = refl
+  go true false e g = absurd (both_ways _ g (eq-eqb m (opposite (record { code = n })).code (sym (back m) ∙ ap code_of (eqb-true (opposite (record { code = m })).code n e))))
+  go false true e g = absurd (both_ways _ e (eq-eqb (opposite (record { code = m })).code n (ap code_of (eqb-true m (opposite (record { code = n })).code g) ∙ back n)))
+
+times_opposite : (l : Lit) (c : List Lit) → times l (map opposite c) ≡ times (opposite l) c
+times_opposite l [] = refl
+times_opposite l (x ∷ c) =
+    sum_by-cons (λ (k : Lit). cond (eqb k.code l.code) 1 0) (opposite x) (map opposite c)
+    ∙ ap (λ b. cond b 1 0 + times l (map opposite c)) (same_tests x.code l.code)
+    ∙ ap (λ n. cond (eqb x.code (opposite l).code) 1 0 + n) (times_opposite l c)
+    ∙ sym (sum_by-cons (λ (k : Lit). cond (eqb k.code (opposite l).code) 1 0) x c)
 
 -- the opposites of a learned clause, where all of them are assumptions
-pub is_core : (lits : List Lit) (log : List Chain) (c : List Lit) (at : ℕ) → AreOpposites lits c → IsSomeAnd (slice_get log at) (λ ch. ch.result ≡ c) → IsCore lits log (map opposite c) at
-is_core lits log c at a e = record {
+pub is_core : (lits : List Lit) (log : List Chain) (c : List Lit) (at : ℕ) → AreOpposites lits c → NoneTwice c → at + 1 ≡ length log → IsSomeAnd (slice_get log at) (λ ch. ch.result ≡ c) → IsCore lits log (map opposite c) at
+is_core lits log c at a once last e = record {
   among = All-from_recursion (λ l. has lits l ≡ true) (map opposite c) (among_by lits c (recursion_from_All (λ l. has lits (opposite l) ≡ true) c a));
-  derived = of_some (slice_get log at) e;
-  empty = λ n. subst (λ d. IsSomeAnd (slice_get log at) (λ ch. ch.result ≡ d)) (none_of c n) e;
-} where
-  of_some : (o : Option Chain) → IsSomeAnd o (λ ch. ch.result ≡ c) → IsSomeAnd o (λ ch. AreOpposites (map opposite c) ch.result)
-  of_some (Some ch) h = subst (AreOpposites (map opposite c)) (sym h) (All-from_recursion (λ l. has (map opposite c) (opposite l) ≡ true) c (own_by c c (λ l i. i)))
-  of_some None h = h
+  once = λ l. subst (λ n. n ≤ 1) (sym (times_opposite l c)) (once (opposite l));
+  last = last;
+  derived = subst (λ d. IsSomeAnd (slice_get log at) (λ (ch : Chain). ch.result ≡ d)) (sym (opposites_back c)) e;
+}
 
 -- an assignment that makes each literal of the trail true makes the assumptions true
 pub assumptions_true : (a : List Bool) (es : List Entry) (lits : List Lit) → AreTrue es lits → ((l : Lit) → has (literals_of es) l ≡ true → literal_true a l ≡ true) → list_all (literal_true a) lits ≡ true
@@ -140,28 +164,25 @@ all_true_at : (a : List Bool) (cs : List (List Lit)) → list_all (clause_true a
 all_true_at a [] h = tt
 all_true_at a (c ∷ cs) h = let p : (clause_true a c ≡ true) × (list_all (clause_true a) cs ≡ true) = and_parts_of (clause_true a c) (list_all (clause_true a) cs) h in (p.0, all_true_at a cs p.1)
 
-lit_all_at : (a : List Bool) (c : List Lit) → list_all (literal_true a) c ≡ true → AllByRecursion (λ l. literal_true a l ≡ true) c
-lit_all_at a [] h = tt
-lit_all_at a (l ∷ c) h = let p : (literal_true a l ≡ true) × (list_all (literal_true a) c ≡ true) = and_parts_of (literal_true a l) (list_all (literal_true a) c) h in (p.0, lit_all_at a c p.1)
-
--- a clause of opposites of true literals is false
-opposites_false : (a : List Bool) (used c : List Lit) → AllByRecursion (λ l. has used (opposite l) ≡ true) c → list_all (literal_true a) used ≡ true → clause_true a c ≡ true → ⊥
-opposites_false a used [] o u t = both_ways false refl t
-opposites_false a used (l ∷ c) o u t = elim (or_cases (literal_true a l) (clause_true a c) t) [
-  | inl e ↦ both_ways (literal_true a (opposite l)) (opposite_turned a l ∙ ap not e)
-      (all_has (λ k. literal_true a k ≡ true) used (All-from_recursion (λ k. literal_true a k ≡ true) used (lit_all_at a used u)) (opposite l) o.0)
-  | inr i ↦ opposites_false a used c o.1 u i
-]
+-- the clause of the opposites of true literals is false
+opposites_false : (a : List Bool) (used : List Lit) → list_all (literal_true a) used ≡ true → clause_true a (map opposite used) ≡ true → ⊥
+opposites_false a [] u t = both_ways false refl t
+opposites_false a (l ∷ used) u t =
+    let p : (literal_true a l ≡ true) × (list_all (literal_true a) used ≡ true) = and_parts_of (literal_true a l) (list_all (literal_true a) used) u in
+    elim (or_cases (literal_true a (opposite l)) (clause_true a (map opposite used)) t) [
+      | inl e ↦ both_ways (literal_true a (opposite l)) (opposite_turned a l ∙ ap not p.0) e
+      | inr i ↦ opposites_false a used p.1 i
+    ]
 
 -- no assignment that satisfies all chains makes the used literals of a core true
 pub core_refutes : (a : List Bool) (lits : List Lit) (log : List Chain) (used : List Lit) (at : ℕ) → IsCore lits log used at → list_all (clause_true a) (results log) ≡ true → list_all (literal_true a) used ≡ true → ⊥
 core_refutes a lits log used at core t u = go (slice_get log at) refl core.derived where
-  go : (o : Option Chain) → slice_get log at ≡ o → IsSomeAnd o (λ ch. AreOpposites used ch.result) → ⊥
+  go : (o : Option Chain) → slice_get log at ≡ o → IsSomeAnd o (λ ch. ch.result ≡ map opposite used) → ⊥
   go None e h = h
-  go (Some ch) e h = opposites_false a used ch.result (recursion_from_All (λ l. has used (opposite l) ≡ true) ch.result h) u
-      (all_in (λ c. clause_true a c ≡ true) (results log) (all_true_at a (results log) t) at ch.result (slice_get-map (λ (x : Chain). x.result) log at ∙ ap (option_map (λ (x : Chain). x.result)) e))
+  go (Some ch) e h = opposites_false a used u (subst (λ c. clause_true a c ≡ true) h
+      (all_in (λ c. clause_true a c ≡ true) (results log) (all_true_at a (results log) t) at ch.result (slice_get-map (λ (x : Chain). x.result) log at ∙ ap (option_map (λ (x : Chain). x.result)) e)))
 
 -- a core refutes what it used
-pub answer_refutes : (v : Verdict) (cs : List (List Lit)) (lits : List Lit) (log : List Chain) → IsAnswer cs lits log v → ((a : List Bool) → IsTrue (all_true a cs) → IsTrue (all_true a (results log))) → IfCore v (λ used at. (a : List Bool) → IsTrue (all_true a cs) → IsTrue (list_all (literal_true a) used) → ⊥)
-answer_refutes (Satisfied a) cs lits log h f = tt
-answer_refutes (Core used at) cs lits log h f = λ a t u. core_refutes a lits log used at h (f a t) u
+pub answer_refutes : (v : Verdict) (f : Formula) (lits : List Lit) (log : List Chain) → IsAnswer f lits log v → ((a : List Bool) → IsTrue (all_true a f.clauses) → IsTrue (all_true a (results log))) → IfCore v (λ used at. (a : List Bool) → IsTrue (all_true a f.clauses) → IsTrue (list_all (literal_true a) used) → ⊥)
+answer_refutes (Satisfied a) g lits log h f = tt
+answer_refutes (Core used at) g lits log h f = λ a t u. core_refutes a lits log used at h (f a t) u

@@ -4,7 +4,8 @@ use Rattle.std.specs.Prelude.{not, IsSomeAnd}
 use Rattle.std.proofs.lemmas.Bool.{both_ways, cases_eq, eq-eqb, ne_eqb, and_right}
 use Rattle.clause_core.specs.declared.literal.Lit.{Lit}
 use Rattle.clause_core.specs.Literal.{positive, negative, variable_of, opposite}
-use Rattle.clause_derivation.specs.Resolution.{has, without, clash, others, chosen, resolvent}
+use Rattle.clause_derivation.specs.Resolution.{without, clash, others, chosen, resolvent}
+use Rattle.clause_core.specs.Members.{has}
 use Rattle.clause_derivation.specs.Marking.{mark_of, AreMarks, LosesMark}
 use Rattle.sat_solver.specs.Resolving.{IsStep}
 use Rattle.sat_solver.specs.Naming.{IsReasonFor}

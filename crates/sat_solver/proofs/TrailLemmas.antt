@@ -8,9 +8,8 @@ use Rattle.std.proofs.lemmas.List.Sums.{sum_by-cons, sum_by-set, count_by-le-len
 use Rattle.clause_core.specs.declared.literal.Lit.{Lit}
 use Rattle.clause_core.specs.Literal.{variable_of, is_negated, opposite}
 use Rattle.clause_core.specs.Truth.{value_of, literal_true}
-use Rattle.clause_derivation.specs.Resolution.{has}
+use Rattle.clause_core.specs.Members.{has, times}
 use Rattle.clause_derivation.specs.Marking.{mark_of}
-use Rattle.sat_arena.specs.Live.{times}
 use Rattle.sat_solver.specs.declared.entry.Entry.{Entry}
 use Rattle.sat_solver.specs.Assigned.{IsTrail, literals_of, is_false}
 use Rattle.sat_solver.proofs.MarkLemmas.{mark_of-set, times_push, marked_within}

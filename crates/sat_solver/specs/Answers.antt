@@ -1,12 +1,12 @@
 -- What a solver keeps, and what its answers say.
-use Rattle.std.specs.Prelude.{◌≡◌, ℕ, Bool, true, false, List, [], All, IsTrue, IsSomeAnd, slice_get}
+use Rattle.std.specs.Prelude.{◌≡◌, ◌+◌, ℕ, Bool, true, false, List, length, map, All, IsTrue, IsSomeAnd, slice_get}
 use Rattle.std.specs.List.{list_all}
 use Rattle.clause_core.specs.declared.literal.Lit.{Lit}
 use Rattle.clause_core.specs.Literal.{opposite}
 use Rattle.clause_core.specs.Truth.{literal_true, all_true}
 use Rattle.clause_core.specs.Formula.{Formula}
 use Rattle.clause_derivation.specs.declared.chain.Chain.{Chain}
-use Rattle.clause_derivation.specs.Resolution.{has}
+use Rattle.clause_core.specs.Members.{has, NoneTwice}
 use Rattle.sat_solver.specs.declared.verdict.Verdict.{Verdict}
 use Rattle.sat_solver.specs.declared.verdict.Verdict.TheVariants.{Satisfied, Core}
 
@@ -28,12 +28,13 @@ pub record Satisfies (a : List Bool) (clauses : List (List Lit)) (assumptions : 
 abbrev pub AreOpposites : List Lit → List Lit → Type 0
 AreOpposites used c = All (λ l. has used (opposite l) ≡ true) c
 
--- The used literals are among the assumptions, and the chain at that place of the log derives a
--- clause of their opposites: the empty clause, where none is used.
+-- The used literals are among the assumptions, none of them twice, and the last chain of the log, at
+-- that place, derives the clause of their opposites: the empty clause, where none is used.
 pub record IsCore (assumptions : List Lit) (log : List Chain) (used : List Lit) (at : ℕ) : Type 0 where
   pub among : All (λ l. has assumptions l ≡ true) used
-  pub derived : IsSomeAnd (slice_get log at) (λ ch. AreOpposites used ch.result)
-  pub empty : used ≡ [] → IsSomeAnd (slice_get log at) (λ ch. ch.result ≡ [])
+  pub once : NoneTwice used
+  pub last : at + 1 ≡ length log
+  pub derived : IsSomeAnd (slice_get log at) (λ ch. ch.result ≡ map opposite used)
 
 -- what holds of a satisfying assignment, if the answer is one
 abbrev pub IfSatisfied : Verdict → (List Bool → Type 0) → Type 0
@@ -46,6 +47,7 @@ IfCore (Satisfied a) P = Unit {0}
 IfCore (Core used at) P = P used at
 
 -- what an answer says
-abbrev pub IsAnswer : List (List Lit) → List Lit → List Chain → Verdict → Type 0
-IsAnswer clauses assumptions log (Satisfied a) = Satisfies a clauses assumptions
-IsAnswer clauses assumptions log (Core used at) = IsCore assumptions log used at
+abbrev pub IsAnswer : Formula → List Lit → List Chain → Verdict → Type 0
+IsAnswer cnf assumptions log (Satisfied a) =
+    Satisfies a cnf.clauses assumptions × (length a ≡ cnf.variables)
+IsAnswer cnf assumptions log (Core used at) = IsCore assumptions log used at

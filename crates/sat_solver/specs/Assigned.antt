@@ -3,8 +3,7 @@ use Rattle.std.specs.Prelude.{◌≡◌, ◌==◌, ◌*◌, ◌≤◌, ◌^◌, 
 use Rattle.clause_core.specs.declared.literal.Lit.{Lit}
 use Rattle.clause_core.specs.Literal.{opposite}
 use Rattle.clause_derivation.specs.Marking.{mark_of}
-use Rattle.clause_derivation.specs.Resolution.{has}
-use Rattle.sat_arena.specs.Live.{times}
+use Rattle.clause_core.specs.Members.{has, times}
 use Rattle.sat_solver.specs.declared.origin.Origin.{Origin}
 use Rattle.sat_solver.specs.declared.entry.Entry.{Entry}
 use Rattle.sat_solver.specs.declared.scan.Found.{Found}

@@ -5,7 +5,7 @@ use Rattle.clause_core.specs.Literal.{opposite}
 use Rattle.clause_core.specs.Formula.{AreInRange}
 use Rattle.clause_derivation.specs.declared.chain.Chain.{Chain}
 use Rattle.clause_derivation.specs.Derivation.{results}
-use Rattle.clause_derivation.specs.Resolution.{has}
+use Rattle.clause_core.specs.Members.{has}
 use Rattle.sat_solver.specs.declared.origin.Origin.{Origin}
 use Rattle.sat_solver.specs.declared.origin.Origin.TheVariants.{Given, Learned}
 

@@ -5,7 +5,7 @@ use Rattle.clause_core.specs.Literal.{variable_of}
 use Rattle.clause_core.specs.Formula.{Formula}
 use Rattle.clause_derivation.specs.declared.chain.Chain.{Chain}
 use Rattle.clause_derivation.specs.Derivation.{IsDerivation}
-use Rattle.clause_derivation.specs.Resolution.{has}
+use Rattle.clause_core.specs.Members.{has}
 use Rattle.sat_solver.specs.declared.entry.Entry.{Entry}
 use Rattle.sat_solver.specs.declared.advance.Stop.{Stop}
 use Rattle.sat_solver.specs.declared.advance.Stop.TheVariants.{Conflict, Refused, Full}

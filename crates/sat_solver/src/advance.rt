@@ -3,7 +3,7 @@
 ghost use Rattle.std.specs.Prelude.{◌≡◌, ◌<◌, ◌≤◌, ◌*◌, ◌+◌, ◌++◌, ◌∷◌, [], true, false, length, take, slice_index_or, ℕ, List, IfOk, IfSome, OnOk, OnErr, All};
 ghost use Rattle.clause_core.specs.declared.literal.Lit.{Lit as Literal};
 ghost use Rattle.clause_core.specs.Literal.{variable_of};
-ghost use Rattle.clause_derivation.specs.Resolution.{has};
+ghost use Rattle.clause_core.specs.Members.{has};
 ghost use Rattle.clause_core.specs.Formula.{IsInRange};
 ghost use Rattle.sat_solver.specs.Answers.{AreConsistent};
 ghost use Rattle.sat_solver.specs.Naming.{IsKnown, IsUsable};

@@ -3,7 +3,7 @@
 ghost use Rattle.std.specs.Prelude.{◌≡◌, ◌/◌, ℕ, length, OnOk, IfOk};
 ghost use Rattle.clause_derivation.specs.Derivation.{Derives};
 ghost use Rattle.clause_derivation.specs.Marking.{HavePlaces};
-ghost use Rattle.sat_arena.specs.Live.{NoneTwice};
+ghost use Rattle.clause_core.specs.Members.{NoneTwice};
 ghost use Rattle.sat_solver.specs.Naming.{numbered, number_of, IsKnown, IsUsable};
 ghost use Rattle.sat_solver.specs.Resolving.{Reaches};
 

@@ -3,11 +3,10 @@
 ghost use Rattle.std.specs.Prelude.{◌≡◌, ◌↔◌, IsTrue, not};
 ghost use Rattle.std.specs.List.{list_all};
 ghost use Rattle.clause_core.specs.Literal.{opposite};
-ghost use Rattle.clause_derivation.specs.Resolution.{has};
+ghost use Rattle.clause_core.specs.Members.{has};
 ghost use Rattle.sat_solver.specs.Answers.{AreConsistent};
 
-use crate::marking::contains;
-use clause_core::Lit;
+use clause_core::{Lit, contains};
 
 /// Whether each literal's opposite is missing.
 fn lack_opposites(lits: &[Lit]) -> bool

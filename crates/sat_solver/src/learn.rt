@@ -4,7 +4,7 @@ ghost use Rattle.std.specs.Prelude.{◌≡◌, ◌+◌, ◌<◌, ◌^◌, true, 
 ghost use Rattle.clause_core.specs.Formula.{IsInRange};
 ghost use Rattle.clause_core.specs.Literal.{opposite};
 ghost use Rattle.clause_derivation.specs.Marking.{HavePlaces};
-ghost use Rattle.sat_arena.specs.Live.{NoneTwice};
+ghost use Rattle.clause_core.specs.Members.{NoneTwice};
 ghost use Rattle.sat_solver.specs.Naming.{IsKnown};
 ghost use Rattle.sat_solver.specs.Answers.{AreOpposites, IsAnswer};
 ghost use Rattle.sat_solver.specs.Searching.{IsSolver, IsDecided, IsPrefix};
@@ -202,7 +202,7 @@ pub fn learn(
     ensures decided { IsDecided assumptions.now engine.new.trail.entries }
     ensures log { IsPrefix log.old log.new }
     ensures answer { IfOk result (λ o. IfSome o
-        (IsAnswer cnf.now.clauses assumptions.now log.new)) }
+        (IsAnswer cnf.now assumptions.now log.new)) }
     // Each conflict takes one of the numbers that are left for chains.
     ensures added { OnOk result (length log.new ≡ length log.old + 1) }
 {

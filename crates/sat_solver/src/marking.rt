@@ -2,9 +2,9 @@
 
 ghost use Rattle.std.specs.Prelude.{◌≡◌, ◌==◌, ◌&&◌, ◌||◌, ◌<◌, length, true, false, not, slice_set, OnOk, IfOk};
 ghost use Rattle.clause_core.specs.declared.literal.Lit.{Lit as Literal};
-ghost use Rattle.clause_derivation.specs.Resolution.{has, without};
+ghost use Rattle.clause_derivation.specs.Resolution.{without};
+ghost use Rattle.clause_core.specs.Members.{has, NoneTwice};
 ghost use Rattle.clause_derivation.specs.Marking.{mark_of, AreMarks, AreWithin, HavePlaces, LosesMark};
-ghost use Rattle.sat_arena.specs.Live.{NoneTwice};
 
 use clause_core::{Lit, Memory};
 use std::alloc::Global;
@@ -15,13 +15,6 @@ pub fn is_marked(marked: &[bool], l: Lit) -> bool
 {
     let at = l.code as usize;
     if at < marked.len() { marked[at] } else { false }
-}
-
-/// Whether a literal is one of these.
-pub fn contains(lits: &[Lit], l: Lit) -> bool
-    ensures { result ≡ has lits.now l }
-{
-    lits.iter().any(|k| k.code == l.code)
 }
 
 /// Takes the mark of one literal away.

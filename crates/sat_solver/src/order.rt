@@ -3,7 +3,7 @@
 ghost use Rattle.std.specs.Prelude.{◌≡◌, ◌<◌, ◌^◌, false, IfSome, OnSome};
 ghost use Rattle.std.specs.BinaryHeap.{heap_len};
 ghost use Rattle.clause_core.specs.Literal.{variable_of};
-ghost use Rattle.clause_derivation.specs.Resolution.{has};
+ghost use Rattle.clause_core.specs.Members.{has};
 ghost use Rattle.sat_solver.specs.Assigned.{literals_of, is_false};
 
 use crate::trail::Trail;

@@ -3,17 +3,14 @@
 ghost use Rattle.std.specs.Prelude.{◌≡◌, ◌*◌, length, false, true, OnOk, IfOk};
 ghost use Rattle.clause_core.specs.Literal.{variable_of};
 ghost use Rattle.clause_derivation.specs.Marking.{mark_of, AreMarks, HavePlaces};
-ghost use Rattle.sat_arena.specs.Live.{NoneTwice};
+ghost use Rattle.clause_core.specs.Members.{NoneTwice};
 ghost use Rattle.sat_solver.specs.Resolving.{IsStep};
 ghost use Rattle.sat_solver.specs.Naming.{IsReasonFor};
 
-use crate::marking::{contains, gather, is_marked, mark_each, mark_others, unmark, unmark_each};
-use clause_core::{Lit, Memory};
+use crate::marking::{gather, is_marked, mark_each, mark_others, unmark, unmark_each};
+use clause_core::{Lit, MOST_VARIABLES, Memory, contains};
 use std::alloc::Global;
 use std::marker::Model;
-
-/// The most variables that literals can speak of.
-const MOST_VARIABLES: u32 = 1 << 31;
 
 /// A clause as marks, one for each literal. Contracts see the marks. Beside them stands a list that
 /// has each marked literal, so that marks are taken away without a pass over all.

@@ -117,9 +117,10 @@ pub enum Round {
 
 /// The answer where every variable has a value, or else a clause that is false.
 fn judge(cnf: &Cnf, trail: &Trail, assumptions: &[Lit]) -> Result<Round, Memory>
-    requires { AreTrue trail.now.entries assumptions.now }
+    requires assumed { AreTrue trail.now.entries assumptions.now }
+    requires variables { trail.now.variables ≡ cnf.now.variables }
     ensures { (chains : List Chain)
-        → IfOk result (IsRound cnf.now.clauses chains assumptions.now) }
+        → IfOk result (IsRound cnf.now chains assumptions.now) }
 {
     let a = trail.assignment()?;
     match first_false(cnf.clauses(), &a) {
@@ -141,7 +142,7 @@ fn next_round(
     requires consistent { AreConsistent assumptions.now }
     ensures solver { IsSolver cnf.now log.now engine.new }
     ensures decided { IsDecided assumptions.now engine.new.trail.entries }
-    ensures round { IfOk result (IsRound cnf.now.clauses log.now assumptions.now) }
+    ensures round { IfOk result (IsRound cnf.now log.now assumptions.now) }
 {
     let known = Known {
         given: cnf.clauses(),
@@ -176,7 +177,7 @@ pub fn run(
     requires consistent { AreConsistent assumptions.now }
     ensures solver { IsSolver cnf.now log.new engine.new }
     ensures log { IsPrefix log.old log.new }
-    ensures answer { IfOk result (IsAnswer cnf.now.clauses assumptions.now log.new) }
+    ensures answer { IfOk result (IsAnswer cnf.now assumptions.now log.new) }
 {
     if let Some(origin) = prepare(cnf, log, engine, assumptions)? {
         if let Some(verdict) = learn(cnf, log, engine, assumptions, origin, Depth::FirstUnique)? {

@@ -101,6 +101,8 @@ impl Solver {
         requires consistent { AreConsistent assumptions.now }
         ensures satisfied { IfOk result (λ v. IfSatisfied v (λ a.
             Satisfies a self.old.cnf.clauses assumptions.now)) }
+        ensures length { IfOk result (λ v. IfSatisfied v (λ a.
+            length a ≡ self.old.cnf.variables)) }
         ensures core { IfOk result (λ v. IfCore v (λ used at.
             IsCore assumptions.now self.new.log used at)) }
 

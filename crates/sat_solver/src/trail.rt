@@ -5,18 +5,15 @@ ghost use Rattle.std.specs.Prelude.{◌≡◌, ◌+◌, ◌*◌, ◌<◌, ◌≤
 ghost use Rattle.clause_core.specs.declared.literal.Lit.{Lit as Literal};
 ghost use Rattle.clause_core.specs.Literal.{variable_of, opposite};
 ghost use Rattle.clause_core.specs.Truth.{literal_true};
-ghost use Rattle.clause_derivation.specs.Resolution.{has};
+ghost use Rattle.clause_core.specs.Members.{has};
 
 use crate::entries::{facts, positives, put_level, put_phase, reason_of, undo};
 use crate::entry::Entry;
 use crate::marking::is_marked;
 use crate::origin::Origin;
-use clause_core::{Assignment, Lit, Memory};
+use clause_core::{Assignment, Lit, MOST_VARIABLES, Memory};
 use std::alloc::Global;
 use std::marker::Model;
-
-/// The most variables that literals can speak of.
-const MOST_VARIABLES: u32 = 1 << 31;
 
 /// The literals that are true, each with its reason. Contracts see a `Path`: the number of
 /// variables, the entries in order, and how many there were when each decision level was opened.
@@ -231,7 +228,8 @@ impl Trail {
     /// The assignment in which exactly the variables are true whose literals are. It makes each true
     /// literal of the trail true.
     pub fn assignment(&self) -> Result<Assignment, Memory>
-        ensures { IfOk result (λ a. (l : Literal)
+        ensures length { IfOk result (λ a. length a ≡ self.now.variables) }
+        ensures keeps { IfOk result (λ a. (l : Literal)
             → has (literals_of self.now.entries) l ≡ true → literal_true a l ≡ true) }
     {
         let values = positives(self.alloc, self.values.as_slice(), self.variables)?;

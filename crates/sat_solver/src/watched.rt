@@ -2,7 +2,8 @@
 
 ghost use Rattle.std.specs.Prelude.{◌≡◌, ◌<◌, ◌≤◌, length, IfOk, IfSome, OnOk};
 ghost use Rattle.clause_core.specs.Formula.{IsInRange};
-ghost use Rattle.sat_arena.specs.Live.{NoneTwice, IsLive, literals};
+ghost use Rattle.sat_arena.specs.Live.{IsLive, literals};
+ghost use Rattle.clause_core.specs.Members.{NoneTwice};
 
 use crate::origin::Origin;
 use crate::trail::Trail;

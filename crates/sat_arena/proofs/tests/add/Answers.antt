@@ -1,5 +1,5 @@
 use Rattle.std.proofs.Common.{subst}
-use Rattle.sat_arena.specs.Live.{NoneTwice}
+use Rattle.clause_core.specs.Members.{NoneTwice}
 use Rattle.sat_arena.proofs.tests.add.Goals as goal
 
 pub add-requires-clause-once : goal.add-requires-clause-once

@@ -1,6 +1,6 @@
 use Rattle.std.proofs.Common.{sym, subst, ◌∙◌}
 use Rattle.std.proofs.lemmas.List.{take_all}
-use Rattle.sat_arena.specs.Live.{NoneTwice}
+use Rattle.clause_core.specs.Members.{NoneTwice}
 use Rattle.sat_arena.proofs.ClauseLemmas.{none_twice_more}
 use Rattle.sat_arena.proofs.tests.differ.Goals as goal
 

@@ -1,5 +1,5 @@
 use Rattle.std.proofs.Common.{take}
-use Rattle.sat_arena.specs.Live.{NoneTwice}
+use Rattle.clause_core.specs.Members.{NoneTwice}
 use Rattle.sat_arena.proofs.tests.differ.Given as goal
 
 abbrev pub invariant-loop-i : goal.invariant-loop-i

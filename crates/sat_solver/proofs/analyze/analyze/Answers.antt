@@ -1,5 +1,5 @@
 use Rattle.std.proofs.Common.{sym, subst}
-use Rattle.sat_arena.specs.Live.{NoneTwice}
+use Rattle.clause_core.specs.Members.{NoneTwice}
 use Rattle.sat_solver.proofs.analyze.analyze.Goals as goal
 
 pub returns-clause-once : goal.returns-clause-once

@@ -5,7 +5,7 @@ use Rattle.std.proofs.lemmas.Bool.{or_left, or_right, eq-eqb, and_from}
 use Rattle.std.proofs.lemmas.List.Elements.{All-from_recursion}
 use Rattle.clause_core.specs.declared.literal.Lit.{Lit}
 use Rattle.clause_core.specs.Literal.{opposite}
-use Rattle.clause_derivation.specs.Resolution.{has}
+use Rattle.clause_core.specs.Members.{has}
 use Rattle.sat_solver.proofs.ScanLemmas.{all_has}
 use Rattle.sat_solver.proofs.assumptions.are_consistent.Goals as goal
 

@@ -1,6 +1,6 @@
 use Rattle.std.proofs.Common.{◌∙◌, sym, ap, subst}
 use Rattle.std.proofs.lemmas.List.{take_all}
-use Rattle.clause_derivation.specs.Resolution.{has}
+use Rattle.clause_core.specs.Members.{has}
 use Rattle.sat_solver.specs.Answers.{AreOpposites}
 use Rattle.sat_solver.proofs.SolverLemmas.{opposites_more}
 use Rattle.sat_solver.proofs.learn.are_opposites.Goals as goal

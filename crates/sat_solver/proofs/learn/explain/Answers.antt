@@ -4,7 +4,7 @@ use Rattle.clause_core.specs.declared.literal.Lit.{Lit}
 use Rattle.clause_core.specs.Formula.{IsInRange}
 use Rattle.clause_derivation.specs.declared.chain.Chain.{Chain}
 use Rattle.clause_derivation.specs.Derivation.{Derives, results}
-use Rattle.sat_arena.specs.Live.{NoneTwice}
+use Rattle.clause_core.specs.Members.{NoneTwice}
 use Rattle.sat_solver.specs.Naming.{IsUsable}
 use Rattle.sat_solver.proofs.SolverLemmas.{places_range, usable_more, reasons_later, last_chain}
 use Rattle.sat_solver.proofs.learn.explain.Goals as goal

@@ -1,7 +1,8 @@
-use Rattle.std.proofs.Common.{◌≡◌, ◌∙◌, List, ℕ, sym, ap, subst, length}
+use Rattle.std.proofs.Common.{◌≡◌, ◌∙◌, ◌+◌, List, ℕ, sym, ap, subst, length}
 use Rattle.std.specs.Prelude.{IsSomeAnd, slice_get}
 use Rattle.clause_core.specs.declared.literal.Lit.{Lit}
 use Rattle.clause_derivation.specs.declared.chain.Chain.{Chain}
+use Rattle.clause_core.specs.Members.{NoneTwice}
 use Rattle.sat_solver.specs.Answers.{AreOpposites, IsAnswer}
 use Rattle.sat_solver.proofs.SolverLemmas.{is_core}
 use Rattle.sat_solver.proofs.learn.learn.Goals as goal
@@ -13,7 +14,9 @@ at_place log c d n m e f h = subst (λ k. IsSomeAnd (slice_get log k) (λ (ch : 
 pub returns-then-branch-clause-answer : goal.returns-then-branch-clause-answer
 returns-then-branch-clause-answer c =
     let lits = c.items-then-branch.result.now in
-    subst (IsAnswer c.args.cnf.now.clauses c.args.assumptions.now c.explain.new.log) (sym c.in_ok-verdict.ensures)
+    subst (IsAnswer c.args.cnf.now c.args.assumptions.now c.explain.new.log) (sym c.in_ok-verdict.ensures)
     (is_core c.args.assumptions.now c.explain.new.log lits (length c.items-place.result.now)
     (subst (AreOpposites c.args.assumptions.now) (c.items.ensures ∙ sym c.items-then-branch.ensures) (c.in_ok-are_opposites.ensures.opposites c.if-branch.true))
+    (subst NoneTwice (sym c.items-then-branch.ensures) c.in_ok-learned.ensures.once)
+    (ap (λ n. n + 1) (ap length c.items-place.ensures) ∙ sym c.in_ok-learned.ensures.added.0)
     (at_place c.explain.new.log c.in_ok-learned.learned lits (length c.items-place.result.now) (length c.args.log.now) (ap length c.items-place.ensures) c.items-then-branch.ensures c.in_ok-learned.ensures.added.1))

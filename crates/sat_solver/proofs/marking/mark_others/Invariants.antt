@@ -1,6 +1,7 @@
 use Rattle.std.proofs.Common.{◌≡◌, ◌||◌, take}
 use Rattle.clause_core.specs.declared.literal.Lit.{Lit}
-use Rattle.clause_derivation.specs.Resolution.{has, without}
+use Rattle.clause_derivation.specs.Resolution.{without}
+use Rattle.clause_core.specs.Members.{has}
 use Rattle.clause_derivation.specs.Marking.{mark_of, AreWithin}
 use Rattle.sat_solver.proofs.marking.mark_others.Given as goal
 

@@ -1,7 +1,7 @@
 use Rattle.std.proofs.Common.{◌≡◌, ◌&&◌, take}
 use Rattle.std.specs.Prelude.{not}
 use Rattle.clause_core.specs.declared.literal.Lit.{Lit}
-use Rattle.clause_derivation.specs.Resolution.{has}
+use Rattle.clause_core.specs.Members.{has}
 use Rattle.clause_derivation.specs.Marking.{mark_of}
 use Rattle.sat_solver.proofs.marking.unmark_each.Given as goal
 

@@ -2,7 +2,7 @@ use Rattle.std.proofs.Common.{◌≡◌, ◌<◌, ◌≤◌, [], ◌∷◌, ◌+
 use Rattle.std.proofs.lemmas.List.{take_at}
 use Rattle.sat_arena.specs.Linking.{lits_of, live_from, added}
 use Rattle.clause_core.specs.Formula.{IsInRange}
-use Rattle.sat_arena.specs.Live.{NoneTwice}
+use Rattle.clause_core.specs.Members.{NoneTwice}
 use Rattle.sat_arena.proofs.LinkLemmas.{id_at}
 use Rattle.sat_arena.proofs.ClauseLemmas.{code_within, list_read}
 use Rattle.sat_arena.proofs.LiveLemmas.{ids_differ}

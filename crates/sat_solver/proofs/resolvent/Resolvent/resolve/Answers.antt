@@ -1,7 +1,8 @@
 use Rattle.std.proofs.Common.{◌≡◌, ◌∙◌, ◌||◌, ◌++◌, List, Bool, sym, ap, subst, take, drop, length, arith}
 use Rattle.clause_core.specs.declared.literal.Lit.{Lit}
 use Rattle.clause_core.specs.Literal.{opposite}
-use Rattle.clause_derivation.specs.Resolution.{has, without}
+use Rattle.clause_derivation.specs.Resolution.{without}
+use Rattle.clause_core.specs.Members.{has}
 use Rattle.clause_derivation.specs.Marking.{mark_of, LosesMark}
 use Rattle.sat_solver.proofs.TrailLemmas.{put_back}
 use Rattle.sat_solver.proofs.StepLemmas.{step_taken}

@@ -1,6 +1,6 @@
 use Rattle.std.proofs.Common.{◌≡◌, ◌∙◌, ◌++◌, ◌∷◌, [], List, Bool, sym, ap, subst, ◌<◌, set, true, false}
 use Rattle.clause_core.specs.Literal.{variable_of}
-use Rattle.clause_derivation.specs.Resolution.{has}
+use Rattle.clause_core.specs.Members.{has}
 use Rattle.sat_solver.specs.Assigned.{Path, IsTrail, literals_of, is_false}
 use Rattle.sat_solver.specs.declared.entry.Entry.{Entry}
 use Rattle.sat_solver.proofs.TrailLemmas.{trail_pushed, trail_bound, has_mark, false_mark}

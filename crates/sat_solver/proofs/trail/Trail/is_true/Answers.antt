@@ -1,5 +1,5 @@
 use Rattle.std.proofs.Common.{◌∙◌, sym, ap, List, Bool}
-use Rattle.clause_derivation.specs.Resolution.{has}
+use Rattle.clause_core.specs.Members.{has}
 use Rattle.clause_derivation.specs.Marking.{mark_of}
 use Rattle.sat_solver.specs.Assigned.{Path, literals_of, is_false}
 use Rattle.sat_solver.proofs.TrailLemmas.{has_mark, false_mark}
