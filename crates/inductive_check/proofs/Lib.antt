@@ -1,0 +1,4 @@
+pub mod LiteralLemmas
+pub mod PathLemmas
+pub mod OwnLemmas
+pub mod LogLemmas
