@@ -2,7 +2,7 @@
 use Rattle.std.proofs.Common.{◌≡◌, ◌≢◌, ℕ, ◌++◌, Bool, true, false, nat_eq, List, [], ◌∷◌, drop, Option, None, Some, refl, ap, sym, ◌∙◌, Bor, MatchOption, arith}
 use Rattle.std.specs.Str.Pattern.{FindsTextPrefix, StripsPrefix}
 use Rattle.std.proofs.lemmas.Bool.Decides.{nat_tests}
-use Rattle.cmp_cli.specs.Words.{rest_after}
+use Rattle.cmp_cli.specs.Reading.{rest_after}
 
 -- what follows the bytes is the rest
 pub rest_after-append : (p rest : List ℕ) → rest_after p (p ++ rest) ≡ Some rest

@@ -14,7 +14,11 @@ use Rattle.flat_check.specs.declared.Formula.TheVariants.{Item, StartFault}
 use Rattle.flat_check.specs.declared.Finding.{Finding}
 use Rattle.flat_check.specs.declared.Finding.TheVariants.{BadStart, BadStep}
 use Rattle.cmp_cli.specs.declared.outcome.Refusal.{Refusal}
-use Rattle.cmp_cli.specs.declared.outcome.Refusal.TheVariants.{E01, E04, E10, E16}
+use Rattle.cmp_cli.specs.declared.outcome.Refusal.TheVariants.{E01, Placed, Bytes}
+use Rattle.cmp_cli.specs.declared.outcome.Role.{Role}
+use Rattle.cmp_cli.specs.declared.outcome.Role.TheVariants as role
+use Rattle.cmp_cli.specs.declared.outcome.Code.{Code}
+use Rattle.cmp_cli.specs.declared.outcome.Code.TheVariants as code
 use Rattle.cmp_cli.specs.declared.outcome.Outcome.{Outcome}
 use Rattle.cmp_cli.specs.declared.outcome.Outcome.TheVariants.{Proved, NotInductive, Refused}
 
@@ -91,12 +95,24 @@ state_lines heading p s = line heading ∷ cell_lines (variables p) s
 abbrev pub place_text : Span → List ℕ
 place_text at = decimal at.line ++ 58 ∷ decimal at.column
 
+-- how a report names one of the files
+abbrev pub role_word : Role → List ℕ
+role_word role.Protocol = codes "protocol"
+role_word role.Lemmas = codes "lemmas"
+role_word role.Flows = codes "flows"
+role_word role.Path = codes "path"
+role_word role.Script = codes "script"
+
+-- how a report names what is wrong at a place
+abbrev pub code_word : Code → List ℕ
+code_word code.E04 = codes "E04"
+code_word code.E10 = codes "E10"
+
 -- what is said of a refusal
 abbrev pub refusal_text : Refusal → List ℕ
 refusal_text E01 = codes "E01"
-refusal_text (E04 at) = codes "E04 protocol " ++ place_text at
-refusal_text (E10 at) = codes "E10 protocol " ++ place_text at
-refusal_text E16 = codes "E16 protocol bytes over 1048576"
+refusal_text (Placed code role at) = code_word code ++ codes " " ++ role_word role ++ codes " " ++ place_text at
+refusal_text (Bytes role limit) = codes "E16 " ++ role_word role ++ codes " bytes over " ++ decimal limit
 
 -- a bad start: the formula that is violated, the start, and the state that it leaves
 abbrev pub bad_start_lines : Protocol → ℕ → State → Formula → List Line

@@ -1,5 +1,6 @@
 -- What is claimed of a call of the program, by the status that it ends with.
 use Rattle.std.specs.Prelude.{◌≡◌, ℕ, ◌<◌, ◌≤◌, List, Option, None, Some, length}
+use Rattle.murphi_ast.specs.declared.token.Span.{Span}
 use Rattle.murphi_ast.specs.declared.rule.Protocol.{Protocol}
 use Rattle.murphi_ast.specs.Flat.{IsBuilt, IsUnbuilt, IsNotFlat}
 use Rattle.murphi_ast.specs.Safety.{IsInductive, IsSafe}
@@ -7,16 +8,18 @@ use Rattle.flat_check.specs.declared.Finding.{Finding}
 use Rattle.flat_check.specs.declared.Formula.{Formula}
 use Rattle.flat_check.specs.Verdict.{IsFinding}
 use Rattle.cmp_outside.specs.Faults.{Rose}
-use Rattle.cmp_outside.specs.Source.{Told, IfTold}
+use Rattle.cmp_outside.specs.Source.{Told, IfTold, SameFiles}
 use Rattle.cmp_outside.specs.Sink.{Gains, GainsPrefix}
-use Rattle.cmp_cli.specs.declared.words.Request.TheVariants.{Check}
 use Rattle.cmp_cli.specs.declared.outcome.Refusal.{Refusal}
-use Rattle.cmp_cli.specs.declared.outcome.Refusal.TheVariants.{E01, E04, E10, E16}
+use Rattle.cmp_cli.specs.declared.outcome.Refusal.TheVariants.{E01, Placed, Bytes}
+use Rattle.cmp_cli.specs.declared.outcome.Role.TheVariants as whose
+use Rattle.cmp_cli.specs.declared.outcome.Code.{Code}
+use Rattle.cmp_cli.specs.declared.outcome.Code.TheVariants as code
 use Rattle.cmp_cli.specs.declared.outcome.Outcome.{Outcome}
 use Rattle.cmp_cli.specs.declared.outcome.Outcome.TheVariants as outcome
 use Rattle.cmp_cli.specs.declared.outcome.Ending.{Ending}
 use Rattle.cmp_cli.specs.declared.outcome.Ending.TheVariants as ending
-use Rattle.cmp_cli.specs.Words.{Word, requested}
+use Rattle.cmp_cli.specs.Words.{Word, AskFor, IsNoRequest}
 use Rattle.cmp_cli.specs.Report.{report}
 
 -- how many bytes a file may have
@@ -26,28 +29,33 @@ greatest_file = 1048576
 -- the words ask for a file, and P holds of its bytes, if the source tells them
 pub record AsksFor (words : List Word) (told : Told) (P : List ℕ → Type 0) : Type 0 where
   pub file : Word
-  pub asked : requested words ≡ Some (Check file)
+  pub asked : AskFor words file
   pub bytes : IfTold (told file) P
 
 -- a file of these bytes is read, and they spell the protocol
 abbrev pub Spells : Protocol → List ℕ → Type 0
 Spells p bytes = (length bytes ≤ greatest_file) × IsBuilt bytes p
 
--- a file of these bytes is refused: it is too long; or something in it is not built; or it spells no flat
--- protocol, where the place that is named is a token's
+-- a text is refused at a place: something in it is not built; or it spells no flat protocol, where the
+-- place that is named is a token's
+abbrev pub RefusesText : Code → List ℕ → Span → Type 0
+RefusesText code.E10 bytes at = IsUnbuilt bytes at
+RefusesText code.E04 bytes at = IsNotFlat bytes
+
+-- a file of the protocol that has these bytes is refused: it is too long, or else its text is refused
 abbrev pub RefusesFile : Refusal → List ℕ → Type 0
 RefusesFile E01 bytes = ⊥
-RefusesFile E16 bytes = greatest_file < length bytes
-RefusesFile (E10 at) bytes = (length bytes ≤ greatest_file) × IsUnbuilt bytes at
-RefusesFile (E04 at) bytes = (length bytes ≤ greatest_file) × IsNotFlat bytes
+RefusesFile (Bytes role limit) bytes =
+    (role ≡ whose.Protocol) × (limit ≡ greatest_file) × (greatest_file < length bytes)
+RefusesFile (Placed code role at) bytes =
+    (role ≡ whose.Protocol) × (length bytes ≤ greatest_file) × RefusesText code bytes at
 
 -- the first refusal of these words and of what is told of files: that the words are no request, or else
 -- that of the file that they ask for
 abbrev pub IsRefusal : List Word → Told → Refusal → Type 0
-IsRefusal words told E01 = requested words ≡ None
-IsRefusal words told E16 = AsksFor words told (RefusesFile E16)
-IsRefusal words told (E10 at) = AsksFor words told (RefusesFile (E10 at))
-IsRefusal words told (E04 at) = AsksFor words told (RefusesFile (E04 at))
+IsRefusal words told E01 = IsNoRequest words
+IsRefusal words told (Bytes role limit) = AsksFor words told (RefusesFile (Bytes role limit))
+IsRefusal words told (Placed code role at) = AsksFor words told (RefusesFile (Placed code role at))
 
 -- the file spells a protocol, which is inductive and therefore safe
 pub record IsProved (words : List Word) (told : Told) (p : Protocol) : Type 0 where
@@ -71,12 +79,15 @@ IsOutcome words told (outcome.Refused refusal) = IsRefusal words told refusal
 pub record Call : Type 0 where
   -- the words of the command line
   pub words : List Word
-  -- what the source tells of files
+  -- what the source told of files before the call, and what it tells after it
   pub told : Told
-  -- how many reads had failed before the call and after it, and the name of the last that failed
+  pub told_then : Told
+  -- how many reads had failed before the call and after it
   pub reads_failed : ℕ
   pub reads_failed_then : ℕ
+  -- the name of the last read that had failed before the call, and after it
   pub last_failed : Option Word
+  pub last_failed_then : Option Word
   -- how many writes had failed before the call and after it
   pub writes_failed : ℕ
   pub writes_failed_then : ℕ
@@ -97,8 +108,8 @@ WroteNothing c = c.written_then ≡ c.written
 pub record ReadFault (c : Call) : Type 0 where
   pub rose : Rose c.reads_failed c.reads_failed_then
   pub file : Word
-  pub asked : requested c.words ≡ Some (Check file)
-  pub named : c.last_failed ≡ Some file
+  pub asked : AskFor c.words file
+  pub named : c.last_failed_then ≡ Some file
   pub wrote : WroteNothing c
 
 -- the report of this outcome could not be written to its end
@@ -124,6 +135,25 @@ EndsAs c ending.Refused = (refusal : Refusal) × Reports c (outcome.Refused refu
 EndsAs c ending.ReadFailed = ReadFault c
 EndsAs c ending.WriteFailed = (o : Outcome) × WriteFault c o
 EndsAs c ending.Memory = WroteNothing c
+
+-- no read failed: the source counts no further fault, and names the same one as its last
+pub record NoReadFailed (c : Call) : Type 0 where
+  pub count : c.reads_failed_then ≡ c.reads_failed
+  pub name : c.last_failed_then ≡ c.last_failed
+
+-- no write failed: the sink counts no further fault
+abbrev pub NoWriteFailed : Call → Type 0
+NoWriteFailed c = c.writes_failed_then ≡ c.writes_failed
+
+-- P, unless the ending is a read that failed
+abbrev pub UnlessReadFailed : Ending → Type 0 → Type 0
+UnlessReadFailed ending.ReadFailed P = Unit {0}
+UnlessReadFailed _ P = P
+
+-- P, unless the ending is a write that failed
+abbrev pub UnlessWriteFailed : Ending → Type 0 → Type 0
+UnlessWriteFailed ending.WriteFailed P = Unit {0}
+UnlessWriteFailed _ P = P
 
 -- no read and no write failed
 pub record NothingFailed (c : Call) : Type 0 where
@@ -153,15 +183,21 @@ IsUnaskedEnding _ = ⊥
 -- what is claimed of a call with this ending
 pub record IsEnding (c : Call) (e : Ending) : Type 0 where
   pub ends : EndsAs c e
+  -- the source tells of each file what it told before, so that one call can follow another
+  pub files : SameFiles c.told c.told_then
+  -- a read that failed is the ending, whatever is read and however often
+  pub reads : UnlessReadFailed e (NoReadFailed c)
+  -- and so is a write that failed
+  pub writes : UnlessWriteFailed e (NoWriteFailed c)
   -- where the words ask for a file of these bytes and nothing fails, a protocol that is spelled is decided,
   -- unless memory runs out
-  pub decided : (file : Word) (bytes : List ℕ) (p : Protocol) → requested c.words ≡ Some (Check file) →
+  pub decided : (file : Word) (bytes : List ℕ) (p : Protocol) → AskFor c.words file →
       c.told file ≡ Some bytes → NothingFailed c → Spells p bytes → IsVerdictEnding e
   -- and what is to be refused is refused, unless memory runs out
-  pub refused : (file : Word) (bytes : List ℕ) (refusal : Refusal) → requested c.words ≡ Some (Check file) →
+  pub refused : (file : Word) (bytes : List ℕ) (refusal : Refusal) → AskFor c.words file →
       c.told file ≡ Some bytes → NothingFailed c → RefusesFile refusal bytes → IsRefusedEnding e
   -- words that are no request are refused, unless a write fails or memory runs out
-  pub unasked : requested c.words ≡ None → IsUnaskedEnding e
+  pub unasked : IsNoRequest c.words → IsUnaskedEnding e
 
 -- what is claimed of a call that ends with this status: it is that of one of the six endings
 abbrev pub IsAnswered : Call → ℕ → Type 0

@@ -1,70 +1,113 @@
--- The words of the command line. The first is the command; its options follow in any order. An option is one
--- word `--name=value`, or two words `--name value`, where the value does not begin with `-`. Each option
--- stands at most once, and no value is empty. Nothing else is a request: no abbreviation, no empty word,
--- neither `-` nor `--`, neither `-h` nor `--help`.
-use Rattle.std.specs.Prelude.{ℕ, nat_eq, List, [], ◌∷◌, Option, None, Some, if◌then◌else◌, fold, codes}
+-- The words of the command line, and what they ask for. The first word is a command; its options follow in
+-- any order, each at most once, and those that the command requires are there. An option is given by one
+-- word, as `--name=value`, or by two, as `--name value`, where the value does not begin with `-`. Nothing
+-- else asks for anything: no abbreviation, no empty word or value, neither `-` nor `--`, neither `-h` nor
+-- `--help`.
+use Rattle.std.specs.Prelude.{◌≡◌, ◌≢◌, ℕ, nat_eq, ◌≤◌, Bool, true, false, not, ◌&&◌, ◌||◌, List, [], ◌∷◌, ◌++◌, Option, None, Some, if◌then◌else◌, codes}
+use Rattle.std.specs.List.{list_all, list_any}
 use Rattle.std.specs.Str.{bytes_eq}
-use Rattle.cmp_cli.specs.declared.words.Given.{Given}
-use Rattle.cmp_cli.specs.declared.words.Request.{Request}
-use Rattle.cmp_cli.specs.declared.words.Request.TheVariants as request
-use Rattle.cmp_cli.specs.declared.words.Reading.{Reading}
-use Rattle.cmp_cli.specs.declared.words.Reading.TheVariants as reading
+use Rattle.std.specs.Fmt.{decimal}
+use Rattle.cmp_cli.specs.declared.table.Command.{Command}
+use Rattle.cmp_cli.specs.declared.table.Command.TheVariants as command
+use Rattle.cmp_cli.specs.declared.table.OptionName.{OptionName}
+use Rattle.cmp_cli.specs.declared.table.OptionName.TheVariants as option
+use Rattle.cmp_cli.specs.declared.table.Takes.{Takes}
+use Rattle.cmp_cli.specs.declared.table.Takes.TheVariants as takes
+use Rattle.cmp_cli.specs.declared.table.Row.{Row}
+use Rattle.cmp_cli.specs.declared.request.Given.{Given}
+use Rattle.cmp_cli.specs.declared.request.Request.{Request}
 
 -- a word is its bytes
 abbrev pub Word : Type 0
 Word = List ℕ
 
--- before the first option
-abbrev pub nothing_given : Given
-nothing_given = record { protocol = None }
+-- how a command is written
+abbrev pub command_word : Command → Word
+command_word command.Check = codes "check"
 
--- the rest of a word that begins with these bytes
-abbrev pub rest_after : List ℕ → Word → Option Word
-rest_after [] word = Some word
-rest_after (p ∷ ps) [] = None
-rest_after (p ∷ ps) (b ∷ bs) = if nat_eq p b then rest_after ps bs else None
+-- how an option is written, before its value
+abbrev pub option_word : OptionName → Word
+option_word option.Protocol = codes "--protocol"
 
--- the first value of the option `protocol`
-abbrev pub first_protocol : Option Word → Word → Reading
-first_protocol None value = reading.Options (record { protocol = Some value })
-first_protocol (Some earlier) value = reading.Refused
+-- The table of the commands: the options of each, which of them it requires, and which values they take.
+abbrev pub rows : Command → List Row
+rows command.Check = record { option = option.Protocol; required = true; takes = takes.Text } ∷ []
 
--- after a value of the option `protocol`: it is not empty, and stands at most once
-abbrev pub with_protocol : Given → Word → Reading
-with_protocol given [] = reading.Refused
-with_protocol given (b ∷ bs) = first_protocol given.protocol (b ∷ bs)
+-- two names are those of one option
+abbrev pub is_same : OptionName → OptionName → Bool
+is_same a b = bytes_eq (option_word a) (option_word b)
 
--- after a word that begins an option: its value stands in the same word, or is the next one
-abbrev pub with_option : Given → Word → Option Word → Reading
-with_option given word (Some value) = with_protocol given value
-with_option given word None = if bytes_eq word (codes "--protocol") then reading.Value given else reading.Refused
+-- the row of an option among rows
+abbrev pub row_among : List Row → OptionName → Option Row
+row_among [] name = None
+row_among (row ∷ more) name = if is_same row.option name then Some row else row_among more name
 
--- after a word that is the value of an option: it does not begin with `-`
-abbrev pub with_value : Given → Word → Option Word → Reading
-with_value given word (Some rest) = reading.Refused
-with_value given word None = with_protocol given word
+-- the value is one that is taken: a text that is not empty; or a number within a range, in decimal, with no
+-- sign and no zero in front
+abbrev pub IsTaken : Takes → Word → Type 0
+IsTaken takes.Text value = value ≢ []
+IsTaken (takes.Number least greatest) value = (n : ℕ) × (value ≡ decimal n) × (least ≤ n) × (n ≤ greatest)
 
--- after one more word
-abbrev pub next_reading : Reading → Word → Reading
-next_reading reading.Refused word = reading.Refused
-next_reading reading.Command word = if bytes_eq word (codes "check") then reading.Options nothing_given else reading.Refused
-next_reading (reading.Options given) word = with_option given word (rest_after (codes "--protocol=") word)
-next_reading (reading.Value given) word = with_value given word (rest_after (codes "-") word)
+-- the value is one that an option with this row takes; an option without a row takes none
+abbrev pub IsTakenBy : Option Row → Word → Type 0
+IsTakenBy None value = ⊥
+IsTakenBy (Some row) value = IsTaken row.takes value
 
--- the request to check this file, which the option `protocol` must name
-abbrev pub check_of : Option Word → Option Request
-check_of None = None
-check_of (Some file) = Some (request.Check file)
+-- each is an option of the command, with a value that it takes
+abbrev pub AreTaken : Command → List Given → Type 0
+AreTaken command [] = Unit {0}
+AreTaken command (g ∷ gs) = IsTakenBy (row_among (rows command) g.option) g.value × AreTaken command gs
 
--- what was asked for where no word is left
-abbrev pub finished : Reading → Option Request
-finished (reading.Options given) = check_of given.protocol
-finished _ = None
+-- the word does not begin with `-`
+abbrev pub has_no_dash : Word → Bool
+has_no_dash [] = true
+has_no_dash (b ∷ bs) = not (nat_eq b 45)
 
--- what the words ask for, or none
-abbrev pub requested : List Word → Option Request
-requested words = finished (fold next_reading reading.Command words)
+-- these words give an option a value: one word, or two
+pub data Gives : Given → List Word → Type 0 where
+  in_one_word : {g : Given} → Gives g ((option_word g.option ++ 61 ∷ g.value) ∷ [])
+  in_two_words : {g : Given} → has_no_dash g.value ≡ true → Gives g (option_word g.option ∷ g.value ∷ [])
 
--- the file that a request names
-abbrev pub file_of : Request → Word
-file_of (request.Check file) = file
+-- these words give options their values, in this order
+abbrev pub GiveAll : List Given → List Word → Type 0
+GiveAll [] words = words ≡ []
+GiveAll (g ∷ gs) words =
+    (own : List Word) × (rest : List Word) × (words ≡ own ++ rest) × Gives g own × GiveAll gs rest
+
+-- whether the option is given
+abbrev pub is_given : List Given → OptionName → Bool
+is_given given name = list_any (λ (g : Given). is_same g.option name) given
+
+-- no option is given twice
+abbrev pub given_once : List Given → Bool
+given_once [] = true
+given_once (g ∷ gs) = not (is_given gs g.option) && given_once gs
+
+-- each option that the command requires is given
+abbrev pub given_required : Command → List Given → Bool
+given_required command given =
+    list_all (λ (row : Row). not row.required || is_given given row.option) (rows command)
+
+-- the words ask for this
+pub record IsRequest (words : List Word) (r : Request) : Type 0 where
+  pub options : List Word
+  pub begins : words ≡ command_word r.command ∷ options
+  pub spelled : GiveAll r.given options
+  pub taken : AreTaken r.command r.given
+  pub once : given_once r.given ≡ true
+  pub required : given_required r.command r.given ≡ true
+
+-- the words ask for nothing
+abbrev pub IsNoRequest : List Word → Type 0
+IsNoRequest words = (r : Request) → IsRequest words r → ⊥
+
+-- the value that an option is given, the first
+abbrev pub value_of : OptionName → List Given → Option Word
+value_of name [] = None
+value_of name (g ∷ gs) = if is_same g.option name then Some g.value else value_of name gs
+
+-- the words ask for something, and give the option `protocol` this value
+pub record AskFor (words : List Word) (file : Word) : Type 0 where
+  pub request : Request
+  pub asked : IsRequest words request
+  pub named : value_of option.Protocol request.given ≡ Some file

@@ -5,6 +5,8 @@ mod lines;
 pub mod outcome;
 mod program;
 mod report;
+pub mod request;
+pub mod table;
 mod titles;
 pub mod words;
 

@@ -1,23 +1,68 @@
 //! What the program comes to: an outcome, which has a report.
 
 ghost use Rattle.std.specs.Prelude.{◌≡◌};
+ghost use Rattle.cmp_cli.specs.Report.{role_word, code_word};
 ghost use Rattle.cmp_cli.specs.Run.{status_of};
 
 use flat_check::{Finding, Formula};
 use murphi_ast::rule::Protocol;
 use murphi_ast::token::Span;
 
+/// Which of the files that the words name is spoken of.
+#[derive(Debug, Clone, Copy, PartialEq, Eq)]
+pub enum Role {
+    Protocol,
+    Lemmas,
+    Flows,
+    Path,
+    Script,
+}
+
+impl Role {
+    /// How a report names the file.
+    pub fn word(self) -> &'static str
+        ensures { result.now ≡ role_word self }
+    {
+        match self {
+            Role::Protocol => "protocol",
+            Role::Lemmas => "lemmas",
+            Role::Flows => "flows",
+            Role::Path => "path",
+            Role::Script => "script",
+        }
+    }
+}
+
+/// What is wrong at a place of a file.
+#[derive(Debug, Clone, Copy, PartialEq, Eq)]
+pub enum Code {
+    /// The text does not follow the grammar.
+    E04,
+    /// What stands there is left out of the language, or not built.
+    E10,
+}
+
+impl Code {
+    /// How a report names it.
+    pub fn word(self) -> &'static str
+        ensures { result.now ≡ code_word self }
+    {
+        match self {
+            Code::E04 => "E04",
+            Code::E10 => "E10",
+        }
+    }
+}
+
 /// Why a request is refused.
 #[derive(Debug, Clone, Copy, PartialEq, Eq)]
 pub enum Refusal {
     /// The words are no request.
     E01,
-    /// The bytes spell no flat protocol; a token that does not fit stands here.
-    E04 { at: Span },
-    /// What stands here is not built.
-    E10 { at: Span },
-    /// The file has more bytes than a file may have.
-    E16,
+    /// Something is wrong at a place of a file.
+    Placed { code: Code, role: Role, at: Span },
+    /// A file has more bytes than `limit`, which is how many a file may have (E16).
+    Bytes { role: Role, limit: u64 },
 }
 
 /// What the program comes to where nothing fails.

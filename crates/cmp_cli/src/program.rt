@@ -6,18 +6,21 @@ ghost use Rattle.murphi_ast.specs.declared.token.Span.{Span};
 ghost use Rattle.murphi_ast.specs.declared.rule.Protocol.{Protocol};
 ghost use Rattle.murphi_ast.specs.Flat.{IsBuilt, IsUnbuilt, IsNotFlat};
 ghost use Rattle.cmp_outside.specs.Faults.{Rose};
+ghost use Rattle.cmp_outside.specs.Source.{SameFiles};
 ghost use Rattle.cmp_cli.specs.declared.outcome.Refusal.{Refusal};
-ghost use Rattle.cmp_cli.specs.Words.{Word, requested};
+ghost use Rattle.cmp_cli.specs.Words.{Word, AskFor, IsNoRequest};
 ghost use Rattle.cmp_cli.specs.Run.{IsOutcome, IsEnding, IsAnswered, Spells, RefusesFile};
-ghost use Rattle.cmp_cli.specs.Judged.{IsJudged, IsOfFile, IsVerdict, IsRefused, OnReadFailed, IsLastFailed, IsUnasked, IsTold, ending_of};
+ghost use Rattle.cmp_cli.specs.Judged.{IsJudged, IsOfFile, IsVerdict, IsRefused, OnReadFailed, UnlessStopped, IsLastFailed, IsUnasked, IsTold, ending_of};
 
-use crate::outcome::{Ending, Outcome, Refusal};
+use crate::outcome::{Code, Ending, Outcome, Refusal, Role};
 use crate::report::{report, write_lines};
-use crate::words::{Request, requested};
+use crate::request::protocol_of;
+use crate::words::requested;
 use cmp_outside::{ReadEnd, Sink, Source};
 use flat_check::{Verdict, check, finding_is_no_proof};
 use murphi_ast::laws::inductive_is_safe;
 use murphi_ast::text::Memory;
+use murphi_ast::token::Span;
 use murphi_syntax::{FlatStop, flat};
 use std::alloc::Global;
 
@@ -33,6 +36,14 @@ enum Stop {
     Memory,
 }
 
+/// The refusal of the text of the protocol at a place.
+fn placed(code: Code, at: Span) -> Refusal
+    ensures { result ≡ Refusal.Placed code Role.Protocol at }
+{
+    let role = Role::Protocol;
+    Refusal::Placed { code, role, at }
+}
+
 /// The outcome for a text that is not too long.
 fn judged(alloc: Global, bytes: &[u8]) -> Result<Outcome, Memory>
     ensures is { IfOk result (λ o. IsJudged bytes.now o) }
@@ -45,11 +56,11 @@ fn judged(alloc: Global, bytes: &[u8]) -> Result<Outcome, Memory>
     let protocol = match flat(alloc, bytes) {
         Ok(protocol) => protocol,
         Err(FlatStop::NotBuilt { at }) => {
-            let refusal = Refusal::E10 { at };
+            let refusal = placed(Code::E10, at);
             return Ok(Outcome::Refused { refusal });
         }
         Err(FlatStop::NotFlat { at }) => {
-            let refusal = Refusal::E04 { at };
+            let refusal = placed(Code::E04, at);
             return Ok(Outcome::Refused { refusal });
         }
         Err(FlatStop::Memory) => return Err(Memory),
@@ -73,6 +84,9 @@ fn checked<S: Source>(alloc: Global, file: &str, files: &mut S) -> Result<Outcom
         RefusesFile refusal bytes → IfOk result IsRefused }
     ensures failed { OnReadFailed result (Rose (S.faults files.old) (S.faults files.new)) }
     ensures failed_name { OnReadFailed result (S.last_failed files.new ≡ Some file.now) }
+    ensures told { SameFiles (S.told files.old) (S.told files.new) }
+    ensures count_stays { UnlessStopped result (S.faults files.new ≡ S.faults files.old) }
+    ensures name_stays { UnlessStopped result (S.last_failed files.new ≡ S.last_failed files.old) }
 {
     match files.read_file(alloc, file, GREATEST_FILE) {
         Ok(bytes) => match judged(alloc, bytes.as_slice()) {
@@ -80,7 +94,9 @@ fn checked<S: Source>(alloc: Global, file: &str, files: &mut S) -> Result<Outcom
             Err(_) => Err(Stop::Memory),
         },
         Err(ReadEnd::TooLong) => {
-            let refusal = Refusal::E16;
+            let role = Role::Protocol;
+            let limit = GREATEST_FILE;
+            let refusal = Refusal::Bytes { role, limit };
             Ok(Outcome::Refused { refusal })
         }
         Err(ReadEnd::Failed) => Err(Stop::ReadFailed),
@@ -115,18 +131,22 @@ fn tell<K: Sink>(alloc: Global, outcome: &Outcome, out: &mut K) -> Ending
 /// The outcome for these words.
 fn outcome<S: Source>(alloc: Global, words: &[String], files: &mut S) -> Result<Outcome, Stop>
     ensures is { IfOk result (λ o. IsOutcome (map string_bytes words.now) (S.told files.old) o) }
-    ensures spelled { (file : Word) (bytes : List ℕ) (p : Protocol) → requested (map string_bytes words.now) ≡ Some (Request.Check file) →
+    ensures spelled { (file : Word) (bytes : List ℕ) (p : Protocol) → AskFor (map string_bytes words.now) file →
         S.told files.old file ≡ Some bytes → Spells p bytes → IfOk result IsVerdict }
-    ensures refused { (file : Word) (bytes : List ℕ) (refusal : Refusal) → requested (map string_bytes words.now) ≡ Some (Request.Check file) →
+    ensures refused { (file : Word) (bytes : List ℕ) (refusal : Refusal) → AskFor (map string_bytes words.now) file →
         S.told files.old file ≡ Some bytes → RefusesFile refusal bytes → IfOk result IsRefused }
     ensures failed { OnReadFailed result (Rose (S.faults files.old) (S.faults files.new)) }
     ensures failed_name { OnReadFailed result (IsLastFailed (map string_bytes words.now) (S.last_failed files.new)) }
-    ensures unasked { requested (map string_bytes words.now) ≡ None → IsUnasked result }
-    ensures unread { requested (map string_bytes words.now) ≡ None → files.new ≡ files.old }
+    ensures told { SameFiles (S.told files.old) (S.told files.new) }
+    ensures count_stays { UnlessStopped result (S.faults files.new ≡ S.faults files.old) }
+    ensures name_stays { UnlessStopped result (S.last_failed files.new ≡ S.last_failed files.old) }
+    ensures unasked { IsNoRequest (map string_bytes words.now) → IsUnasked result }
+    ensures unread { IsNoRequest (map string_bytes words.now) → files.new ≡ files.old }
 {
     match requested(alloc, words) {
         Ok(Some(request)) => {
-            let found = checked(alloc, request.file(), files);
+            let file = protocol_of(&request);
+            let found = checked(alloc, file.as_str(), files);
             found
         }
         Ok(None) => {
@@ -142,15 +162,17 @@ fn ending<S: Source, K: Sink>(alloc: Global, words: &[String], files: &mut S, ou
     ensures is { IsEnding (record {
       words = map string_bytes words.now;
       told = S.told files.old;
+      told_then = S.told files.new;
       reads_failed = S.faults files.old;
       reads_failed_then = S.faults files.new;
-      last_failed = S.last_failed files.new;
+      last_failed = S.last_failed files.old;
+      last_failed_then = S.last_failed files.new;
       writes_failed = K.faults out.old;
       writes_failed_then = K.faults out.new;
       written = K.written out.old;
       written_then = K.written out.new;
     }) result }
-    ensures unread { requested (map string_bytes words.now) ≡ None → files.new ≡ files.old }
+    ensures unread { IsNoRequest (map string_bytes words.now) → files.new ≡ files.old }
 {
     match outcome(alloc, words, files) {
         Ok(outcome) => tell(alloc, &outcome, out),
@@ -175,9 +197,11 @@ pub fn run<S: Source, K: Sink>(alloc: Global, words: &Vec<String>, files: &mut S
     ensures answered { IsAnswered (record {
       words = map string_bytes words.now.items;
       told = S.told files.old;
+      told_then = S.told files.new;
       reads_failed = S.faults files.old;
       reads_failed_then = S.faults files.new;
-      last_failed = S.last_failed files.new;
+      last_failed = S.last_failed files.old;
+      last_failed_then = S.last_failed files.new;
       writes_failed = K.faults out.old;
       writes_failed_then = K.faults out.new;
       written = K.written out.old;
@@ -185,7 +209,7 @@ pub fn run<S: Source, K: Sink>(alloc: Global, words: &Vec<String>, files: &mut S
     }) result }
 
     // For words that are no request nothing is read.
-    ensures unread { requested (map string_bytes words.now.items) ≡ None → files.new ≡ files.old }
+    ensures unread { IsNoRequest (map string_bytes words.now.items) → files.new ≡ files.old }
 {
     let ending = ending(alloc, words.as_slice(), files, out);
     ending.status()

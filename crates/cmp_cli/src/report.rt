@@ -7,7 +7,7 @@ ghost use Rattle.cmp_outside.specs.Sink.{Gains, GainsPrefix};
 ghost use Rattle.cmp_cli.specs.Report.{line, quoted, place_text, refusal_text, item_title, formula_line, bad_start_lines, firing_lines, bad_step_lines, finding_lines, proved_lines, answer_lines, report_lines};
 
 use crate::lines::{claims, formula_line, plain, push_state, titled};
-use crate::outcome::{Outcome, Refusal};
+use crate::outcome::{Code, Outcome, Refusal, Role};
 use crate::titles::item_title;
 use cmp_outside::{Sink, WriteFailed};
 use flat_check::{Finding, Formula};
@@ -146,13 +146,25 @@ fn push_proved(alloc: Global, lines: &mut Items<Text>, p: &Protocol) -> Result<(
     Ok(())
 }
 
-/// The line of a text and a place.
-fn placed(alloc: Global, head: &str, at: Span) -> Result<Text, Memory>
-    ensures { IfOk result (λ t. t ≡ line (head.now ++ place_text at)) }
+/// The line of what is wrong at a place.
+fn placed(alloc: Global, code: Code, role: Role, at: Span) -> Result<Text, Memory>
+    ensures { IfOk result (λ t. t ≡ line (codes "refused " ++ refusal_text (Refusal.Placed code role at))) }
 {
+    let code = code.word();
+    let role = role.word();
     let line = at.line;
     let column = at.column;
-    let text = format!(in alloc; "{head}{line}:{column}")?;
+    let text = format!(in alloc; "refused {code} {role} {line}:{column}")?;
+    let line = plain(alloc, text.as_bytes())?;
+    Ok(line)
+}
+
+/// The line of a file that is too long.
+fn too_long(alloc: Global, role: Role, limit: u64) -> Result<Text, Memory>
+    ensures { IfOk result (λ t. t ≡ line (codes "refused " ++ refusal_text (Refusal.Bytes role limit))) }
+{
+    let role = role.word();
+    let text = format!(in alloc; "refused E16 {role} bytes over {limit}")?;
     let line = plain(alloc, text.as_bytes())?;
     Ok(line)
 }
@@ -166,16 +178,12 @@ fn refused(alloc: Global, refusal: Refusal) -> Result<Text, Memory>
             let line = plain(alloc, b"refused E01")?;
             Ok(line)
         }
-        Refusal::E04 { at } => {
-            let line = placed(alloc, "refused E04 protocol ", at)?;
+        Refusal::Placed { code, role, at } => {
+            let line = placed(alloc, code, role, at)?;
             Ok(line)
         }
-        Refusal::E10 { at } => {
-            let line = placed(alloc, "refused E10 protocol ", at)?;
-            Ok(line)
-        }
-        Refusal::E16 => {
-            let line = plain(alloc, b"refused E16 protocol bytes over 1048576")?;
+        Refusal::Bytes { role, limit } => {
+            let line = too_long(alloc, role, limit)?;
             Ok(line)
         }
     }
@@ -221,6 +229,7 @@ pub fn report(alloc: Global, outcome: &Outcome) -> Result<Items<Text>, Memory>
 #[tactic(auto, using(cmp_outside::specs::Sink::gains, crate::proofs::LineLemmas::lines))]
 pub fn write_lines<K: Sink>(out: &mut K, lines: &[Text]) -> Result<(), WriteFailed>
     ensures ok { OnOk result (Gains (K.written out.old) (K.written out.new) (concat lines.now)) }
+    ensures count_stays { OnOk result (K.faults out.new ≡ K.faults out.old) }
     ensures failed { OnErr result (Rose (K.faults out.old) (K.faults out.new)) }
     ensures prefix { OnErr result (GainsPrefix (K.written out.old) (K.written out.new) (concat lines.now)) }
 {

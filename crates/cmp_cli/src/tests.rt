@@ -1,7 +1,7 @@
 //! Tests of what no clause says, over files and a sink in memory: the words, faults, and the text of
 //! reports of outcomes made by hand.
 
-use crate::outcome::{Outcome, Refusal};
+use crate::outcome::{Code, Outcome, Refusal, Role};
 use crate::report::report;
 use crate::run;
 use cmp_outside::{MemFile, MemFiles, MemSink};
@@ -53,7 +53,7 @@ pub fn call(
     text: &[u8],
     read: u64,
     write: u64,
-) -> Result<Seen, AllocError> {
+) -> Result<Seen, cmp_outside::Memory> {
     let words = words_of(alloc, words)?;
     let mut files = one_file(alloc, text, read)?;
     let failing = Vec::from_slice(alloc, &[write])?;
@@ -338,12 +338,20 @@ fn reports_by_hand(rt: HostRuntime) -> Result<(), Fail> {
 fn refusals_by_hand(rt: HostRuntime) -> Result<(), Fail> {
     for (refusal, want) in [
         (
-            Refusal::E10 { at: AT },
+            Refusal::Placed {
+                code: Code::E10,
+                role: Role::Protocol,
+                at: AT,
+            },
             "cmp 1\nrefused E10 protocol 12:19\nend\n",
         ),
         (
-            Refusal::E04 { at: AT },
-            "cmp 1\nrefused E04 protocol 12:19\nend\n",
+            Refusal::Placed {
+                code: Code::E04,
+                role: Role::Script,
+                at: AT,
+            },
+            "cmp 1\nrefused E04 script 12:19\nend\n",
         ),
     ] {
         let text = printed(rt.alloc(), &Outcome::Refused { refusal })?;

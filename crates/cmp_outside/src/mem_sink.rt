@@ -9,7 +9,14 @@ use std::alloc::{AllocError, Global};
 use std::marker::Model;
 
 /// Want of memory.
-pub type Memory = AllocError;
+#[derive(Debug, Drop)]
+pub struct Memory;
+
+impl From<AllocError> for Memory {
+    fn from(_error: AllocError) -> Memory {
+        Memory
+    }
+}
 
 /// A sink that keeps what is written to it, up to the room that it was made with.
 #[derive(Drop)]
