@@ -2,7 +2,7 @@
 
 use crate::expr::Expr;
 use crate::stmt::Stmt;
-use crate::types::{Kind, Simple, Type};
+use crate::types::{AnyType, Kind, Simple};
 use murphi_ast::text::Text;
 use murphi_ast::token::Span;
 use sqlite_items::Items;
@@ -11,7 +11,7 @@ use sqlite_items::Items;
 #[derive(Drop)]
 pub struct Variable {
     pub name: Text,
-    pub of: Type,
+    pub of: AnyType,
 }
 
 /// A formal. `by_place` says that `var` stands before it.
@@ -19,7 +19,7 @@ pub struct Variable {
 pub struct Formal {
     pub name: Text,
     pub by_place: bool,
-    pub of: Type,
+    pub of: AnyType,
 }
 
 /// A procedure, or a function where it has a result. It calls only routines with smaller numbers. Its
@@ -110,7 +110,7 @@ pub struct NodeType {
 #[derive(Drop)]
 pub enum Entity {
     Constant(i16),
-    TypeName(Type),
+    TypeName(AnyType),
     Variable(u32),
     Member { kind: u32, index: u8, count: u16 },
     Routine(u32),

@@ -1,7 +1,7 @@
 //! Statements.
 
 use crate::expr::{Arguments, Designator, Expr};
-use crate::types::{Simple, Type};
+use crate::types::{AnyType, Simple};
 use murphi_ast::token::Span;
 use sqlite_items::Items;
 
@@ -54,7 +54,7 @@ pub enum Stmt {
     /// `of` is the type of the designator.
     Clear {
         place: Designator,
-        of: Type,
+        of: AnyType,
         at: Span,
     },
     Undefine {

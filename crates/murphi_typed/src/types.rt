@@ -16,13 +16,13 @@ pub enum Simple {
     Node,
 }
 
-/// A type. A record with the same fields in another order is the same type.
+/// A type, simple or compound. A record with the same fields in another order is the same type.
 #[cycle(types)]
 #[derive(Drop)]
-pub enum Type {
+pub enum AnyType {
     Simple(Simple),
     Record { fields: Items<Field> },
-    Array { index: Simple, item: Boxed<Type> },
+    Array { index: Simple, item: Boxed<AnyType> },
 }
 
 /// A field of a record.
@@ -30,7 +30,7 @@ pub enum Type {
 #[derive(Drop)]
 pub struct Field {
     pub name: Text,
-    pub of: Type,
+    pub of: AnyType,
 }
 
 /// What the members of a kind are called: the names of an enum as they are written; or the name of the
