@@ -9,3 +9,6 @@ pub mod Expressions
 pub mod Execution
 pub mod Steps
 pub mod Prefix
+pub mod Worked
+pub mod WorkedBodies
+pub mod WorkedSteps

@@ -4,6 +4,7 @@
 #![tactic(auto)]
 
 pub mod expr;
+pub mod laws;
 pub mod protocol;
 pub mod stmt;
 pub mod types;
