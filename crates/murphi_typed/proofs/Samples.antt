@@ -4,9 +4,10 @@ use Rattle.murphi_typed.specs.Families.{leaf_at, ways}
 use Rattle.murphi_typed.specs.Expressions.{value_of}
 use Rattle.murphi_typed.specs.Execution.{run}
 use Rattle.murphi_typed.specs.Prefix.{depth_of, stmt_depth, up}
+use Rattle.murphi_typed.specs.WellTyped.{has_parts, is_type, stmt_fits, type_of}
 use Rattle.murphi_typed.specs.Worked.{ExpressionsAreAsWorked, QuantifiersAreAsWorked, AssignmentsAreAsWorked}
 use Rattle.murphi_typed.specs.WorkedBodies.{ChoicesAreAsWorked, CallsAreAsWorked}
-use Rattle.murphi_typed.specs.WorkedSteps.{StepsAreAsWorked, CellsAreAsWorked, PrefixesAreAsWorked}
+use Rattle.murphi_typed.specs.WorkedSteps.{StepsAreAsWorked, CellsAreAsWorked, PrefixesAreAsWorked, TypesAreAsWorked}
 
 pub expressions : ExpressionsAreAsWorked
 unfolding value_of
@@ -39,3 +40,7 @@ cells = (refl, refl, refl, refl, refl, refl, refl, refl, refl, refl, refl, refl,
 pub prefixes : PrefixesAreAsWorked
 unfolding depth_of stmt_depth up
 prefixes = (refl, refl, refl, refl, refl, refl, refl, refl, refl, refl, refl, refl, refl, refl, refl, refl, refl, refl, refl, refl, refl, refl)
+
+pub types : TypesAreAsWorked
+unfolding is_type has_parts type_of stmt_fits
+types = (refl, refl, refl, refl)

@@ -173,6 +173,7 @@ unfoldable mutual
   row_arguments calls scene at cells (more_of-Argument first rest) = given (argument_of calls scene at cells first) (λ g. given (row_arguments calls scene at cells rest) (λ gs. Got (g ∷ gs)))
 
   pub argument_of : Calls → Scene → Span → Cells → argument.Argument → Outcome Given
-  argument_of calls scene at cells (argument.Copy place) = given (place_of calls scene at cells place) (λ p. Got (Filled (contents_at cells p)))
+  argument_of calls scene at cells (argument.Copy place) = given (place_of calls scene at cells place) (λ p. Got (Filled (only (cell_at cells p))))
+  argument_of calls scene at cells (argument.CopyAll place) = given (place_of calls scene at cells place) (λ p. Got (Filled (contents_at cells p)))
   argument_of calls scene at cells (argument.Value body) = given (value_of calls scene at cells body) (λ v. Got (Filled (only v)))
   argument_of calls scene at cells (argument.Place place) = given (place_of calls scene at cells place) (λ p. Got (Standing p))

@@ -9,6 +9,7 @@ pub mod Expressions
 pub mod Execution
 pub mod Steps
 pub mod Prefix
+pub mod WellTyped
 pub mod Worked
 pub mod WorkedBodies
 pub mod WorkedSteps

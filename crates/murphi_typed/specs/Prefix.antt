@@ -86,6 +86,7 @@ unfoldable mutual
 
   pub arg_depth : Depths → List ℕ → argument.Argument → ℕ
   arg_depth calls formals (argument.Copy place) = place_depth calls formals place
+  arg_depth calls formals (argument.CopyAll place) = place_depth calls formals place
   arg_depth calls formals (argument.Value body) = depth_of calls formals body
   arg_depth calls formals (argument.Place place) = place_depth calls formals place
 

@@ -26,8 +26,9 @@ use Rattle.murphi_typed.specs.Families.{Path, Cell, cells, path_of}
 use Rattle.murphi_typed.specs.Names.{value_text, enum_text}
 use Rattle.murphi_typed.specs.Outcome.{Got, Fault}
 use Rattle.murphi_typed.specs.Steps.{State, started, fired}
+use Rattle.murphi_typed.specs.WellTyped.{is_well_typed, rule_fits}
 use Rattle.murphi_typed.specs.Prefix.{up, down, formula_prefix, rule_prefix}
-use Rattle.murphi_typed.specs.Worked.{here, there, the, global, item, chain, node, yes_, no_, assign, copy, one, two}
+use Rattle.murphi_typed.specs.Worked.{here, there, the, number, global, item, chain, node, yes_, no_, assign, copy, one, two}
 use Rattle.murphi_typed.specs.WorkedBodies.{to_item, routine, with_one, by_value, formal}
 
 abbrev pub variable : List ℕ → AnyType → Variable
@@ -210,3 +211,14 @@ PrefixesAreAsWorked =
   -- rules: alias.m's "Link" has 2, its start 1
   × (rule_prefix [] alias_link.params alias_link.guard alias_link.body ≡ 2)
   × (rule_prefix [] [] None alias_start.body ≡ 1)
+
+-- a rule that assigns a number to a truth value
+abbrev pub mistyped : Rule
+mistyped = rule [] None (one (assign 0 simple.Truth (number (pos 1))))
+
+abbrev pub TypesAreAsWorked : Type 0
+TypesAreAsWorked =
+  (is_well_typed undef ≡ true)
+  × (is_well_typed alias ≡ true)
+  × (is_well_typed german ≡ true)
+  × (rule_fits undef mistyped ≡ false)

@@ -100,9 +100,11 @@ pub enum Selector {
 #[cycle(expr)]
 #[derive(Drop)]
 pub enum Argument {
-    /// To a formal by value: the cells of a plain designator, of any type.
+    /// To a formal by value of simple type: the cell of a plain designator, also where it is undefined.
     Copy(Designator),
-    /// To a formal by value: the value of any other expression.
+    /// To a formal by value of compound type: the cells of a plain designator.
+    CopyAll(Designator),
+    /// To a formal by value of simple type: the value of any other expression.
     Value(Expr),
     /// To a `var` formal: a place.
     Place(Designator),

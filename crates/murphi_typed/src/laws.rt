@@ -2,7 +2,7 @@
 
 ghost use Rattle.murphi_typed.specs.Worked.{ExpressionsAreAsWorked, QuantifiersAreAsWorked, AssignmentsAreAsWorked};
 ghost use Rattle.murphi_typed.specs.WorkedBodies.{ChoicesAreAsWorked, CallsAreAsWorked};
-ghost use Rattle.murphi_typed.specs.WorkedSteps.{StepsAreAsWorked, CellsAreAsWorked, PrefixesAreAsWorked};
+ghost use Rattle.murphi_typed.specs.WorkedSteps.{StepsAreAsWorked, CellsAreAsWorked, PrefixesAreAsWorked, TypesAreAsWorked};
 
 /// The worked cases of the meaning come out as they were worked out by hand.
 pub fn worked_cases()
@@ -14,4 +14,5 @@ pub fn worked_cases()
     ensures steps { StepsAreAsWorked }
     ensures cells { CellsAreAsWorked }
     ensures prefixes { PrefixesAreAsWorked }
+    ensures types { TypesAreAsWorked }
 {}

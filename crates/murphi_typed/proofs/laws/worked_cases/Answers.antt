@@ -1,4 +1,4 @@
-use Rattle.murphi_typed.proofs.Samples.{expressions, quantifiers, assignments, choices, calls, steps, cells, prefixes}
+use Rattle.murphi_typed.proofs.Samples.{expressions, quantifiers, assignments, choices, calls, steps, cells, prefixes, types}
 use Rattle.murphi_typed.proofs.laws.worked_cases.Goals as goal
 
 pub returns-clause-expressions : goal.returns-clause-expressions
@@ -24,3 +24,6 @@ returns-clause-cells c = cells
 
 pub returns-clause-prefixes : goal.returns-clause-prefixes
 returns-clause-prefixes c = prefixes
+
+pub returns-clause-types : goal.returns-clause-types
+returns-clause-types c = types
