@@ -1,2 +1,4 @@
 -- Lemmas.
 mod Samples
+pub mod TestLemmas
+pub mod LeafLemmas

@@ -10,6 +10,7 @@ pub mod Execution
 pub mod Steps
 pub mod Prefix
 pub mod WellTyped
+pub mod Keeping
 pub mod Worked
 pub mod WorkedBodies
 pub mod WorkedSteps
