@@ -2,3 +2,4 @@
 mod Samples
 pub mod TestLemmas
 pub mod LeafLemmas
+pub mod KeepLemmas
