@@ -3,3 +3,4 @@ mod Samples
 pub mod TestLemmas
 pub mod LeafLemmas
 pub mod KeepLemmas
+pub mod ClearLemmas
