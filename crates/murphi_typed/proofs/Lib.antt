@@ -4,3 +4,4 @@ pub mod TestLemmas
 pub mod LeafLemmas
 pub mod KeepLemmas
 pub mod ClearLemmas
+pub mod EntryLemmas
