@@ -5,3 +5,5 @@ pub mod LeafLemmas
 pub mod KeepLemmas
 pub mod ClearLemmas
 pub mod EntryLemmas
+pub mod InnerLemmas
+pub mod BodyLemmas
