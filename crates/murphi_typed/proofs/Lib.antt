@@ -1,0 +1,9 @@
+-- Lemmas.
+mod Samples
+pub mod TestLemmas
+pub mod LeafLemmas
+pub mod KeepLemmas
+pub mod ClearLemmas
+pub mod EntryLemmas
+pub mod InnerLemmas
+pub mod BodyLemmas

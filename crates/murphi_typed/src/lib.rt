@@ -1,0 +1,10 @@
+//! Protocols as they are typed, and what they mean for every number of nodes. Every name of the text
+//! is replaced by what it declares, every constant by its number and every type by its parts. The
+//! meaning stands in `specs/`.
+#![tactic(auto)]
+
+pub mod expr;
+pub mod laws;
+pub mod protocol;
+pub mod stmt;
+pub mod types;
