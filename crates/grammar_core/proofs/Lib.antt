@@ -9,3 +9,5 @@ pub mod Tight
 pub mod Rules
 pub mod Theorem
 pub mod Once
+pub mod Alike
+pub mod Alternatives

@@ -4,84 +4,29 @@
 -- part. `a ▸ b` is a followed by b, and `a ∥ b` is either; `many a` is any number of a, and `optional a`
 -- is a or nothing. `nest w a` is the token w and what follows it, while which one more nesting is open.
 -- Parentheses, empty statements and empty items leave nothing in the tree.
-use Rattle.std.specs.Prelude.{Bool, true, false, List, [], ◌∷◌, ◌++◌, ◌⊎◌, Option, None, Some, map}
+use Rattle.std.specs.Prelude.{true, false, List, [], ◌∷◌, None, Some, map}
 use Rattle.std.proofs.Common.{inl, inr}
-use Rattle.grammar_core.specs.Forms.{Form, One, Empty, Seq, Choice, Many, Nest, Call, Grammar, TreeOf}
+use Rattle.grammar_core.specs.Forms.{Grammar, TreeOf}
 use Rattle.murphi_ast.specs.declared.token.Token.{Token}
-use Rattle.murphi_ast.specs.declared.text.Text.{Text}
-use Rattle.murphi_ast.specs.declared.expr.Named.{Named}
-use Rattle.murphi_ast.specs.declared.expr.ChainOp.{ChainOp}
 use Rattle.murphi_ast.specs.declared.expr.ChainOp.TheVariants as chain
-use Rattle.murphi_ast.specs.declared.expr.CompareOp.{CompareOp}
-use Rattle.murphi_ast.specs.declared.expr.CompareOp.TheVariants as compare
-use Rattle.murphi_ast.specs.declared.expr.Designator.{Designator}
-use Rattle.murphi_ast.specs.declared.expr.Selector as selector
-use Rattle.murphi_ast.specs.declared.expr.Selector.{Selector}
-use Rattle.murphi_ast.specs.declared.expr.Bind.{Bind}
-use Rattle.murphi_ast.specs.declared.expr.FieldDecl.{FieldDecl}
-use Rattle.murphi_ast.specs.declared.expr.Link.{Link}
 use Rattle.murphi_ast.specs.declared.expr.TypeExpr as type
-use Rattle.murphi_ast.specs.declared.expr.TypeExpr.{TypeExpr}
 use Rattle.murphi_ast.specs.declared.expr.Expr as e
-use Rattle.murphi_ast.specs.declared.expr.Expr.{Expr}
 use Rattle.murphi_ast.specs.declared.stmt.Stmt as s
-use Rattle.murphi_ast.specs.declared.stmt.Stmt.{Stmt}
-use Rattle.murphi_ast.specs.declared.stmt.Arm.{Arm}
-use Rattle.murphi_ast.specs.declared.stmt.Case.{Case}
 use Rattle.murphi_ast.specs.declared.decl.Decl as d
-use Rattle.murphi_ast.specs.declared.decl.Decl.{Decl}
-use Rattle.murphi_ast.specs.declared.decl.Formal.{Formal}
 use Rattle.murphi_ast.specs.declared.rule.RuleDecl as r
-use Rattle.murphi_ast.specs.declared.rule.RuleDecl.{RuleDecl}
-use Rattle.murphi_ast.specs.declared.rule.Protocol.{Protocol}
 use Rattle.murphi_grammar.specs.declared.symbol.Symbol.{Symbol}
 use Rattle.murphi_grammar.specs.declared.symbol.Symbol.TheVariants as t
 use Rattle.murphi_grammar.specs.Symbols.{symbol_of}
 use Rattle.murphi_grammar.specs.Names.{Name}
 use Rattle.murphi_grammar.specs.Names as n
-
--- a form of this grammar
-abbrev pub Part : Type 0
-Part = Form Symbol Name
-
-infixr 40 ◌▸◌
-infixr 30 ◌∥◌
--- the one, and behind it the other
-abbrev pub ◌▸◌ : Part → Part → Part
-a ▸ b = Seq a b
-
--- either
-abbrev pub ◌∥◌ : Part → Part → Part
-a ∥ b = Choice a b
-
--- one token
-abbrev pub one : Symbol → Part
-one s = One s
-
--- a named form
-abbrev pub form : Name → Part
-form n = Call n
-
-abbrev pub many : Part → Part
-many a = Many a
-
-abbrev pub optional : Part → Part
-optional a = Choice a Empty
-
--- a token, and what follows it as one more open nesting
-abbrev pub nest : Symbol → Part → Part
-nest s a = Nest s a
-
--- `end`, or the word itself
-abbrev pub ending : Symbol → Part
-ending word = one t.End ∥ one word
-
-abbrev pub in_parentheses : Part → Part
-in_parentheses a = nest t.Open (a ▸ one t.Close)
+use Rattle.murphi_grammar.specs.Parts.{Part, ◌▸◌, ◌∥◌, one, form, many, optional, nest, ending, in_parentheses}
+use Rattle.murphi_grammar.specs.Values.{Value, named, seconds, present, and_present, listed, is_there, title, joined, declared, constant, type_name, variables, field, arm, case_of, otherwise, arguments, formals, selector_of, compare_of, link, sum_link, product_link, chained}
+use Rattle.murphi_grammar.specs.Pieces.{piece, piece_build}
 
 -- the right side of each named form
 abbrev pub rule : Name → Part
--- { declare | routine } rules, with at least one item, and the end of the text
+-- { declare | routine } rules, with at least one item, and the end of the text: of `item? { ; item? }` the
+-- items left out before the first that is there are the leading semicolons
 rule n.Protocol =
     many (form n.Declare ∥ form n.Routine) ▸
     many (one t.Semicolon) ▸ form n.Item ▸ many (one t.Semicolon ▸ optional (form n.Item)) ▸ one t.EndOfText
@@ -192,150 +137,8 @@ rule n.Primary =
     nest t.Exists (form n.Bind ▸ one t.Do ▸ form n.Expr ▸ ending t.EndExists)
 -- name { . name | [ expr ] }
 rule n.Place = one t.Name ▸ many (one t.Dot ▸ one t.Name ∥ nest t.OpenBracket (form n.Expr ▸ one t.CloseBracket))
-
--- what each named form gives
-abbrev pub Value : Name → Type 0
-Value n.Protocol = Protocol
-Value n.Declare = List Decl
-Value n.NameList = List Named
-Value n.Routine = Decl
-Value n.Formals = List Formal
-Value n.Formal = Formal
-Value n.Body = List Decl × List Stmt
-Value n.TypeForm = TypeExpr
-Value n.Fields = List FieldDecl
-Value n.Items = List RuleDecl
-Value n.Item = RuleDecl
-Value n.Bind = Bind
-Value n.Stmts = List Stmt
-Value n.Stmt = Stmt
-Value n.Args = List Expr
-Value n.Expr = Expr
-Value n.Implies = Expr
-Value n.Or = Expr
-Value n.And = Expr
-Value n.Not = Expr
-Value n.Compare = Expr
-Value n.Sum = Expr
-Value n.Product = Expr
-Value n.Unary = Expr
-Value n.Primary = Expr
-Value n.Place = Designator
-
--- the name that a token writes
-abbrev pub named : Token → Named
-named x = record { name = x.text; at = x.at }
-
--- the second of each pair
-abbrev pub seconds : {A B : Type 0} → List (A × B) → List B
-seconds [] = []
-seconds ((_, x) ∷ xs) = x ∷ seconds xs
-
--- what is there of optional parts, each behind a token
-abbrev pub present : {A B C : Type 0} → List (A × (B ⊎ C)) → List B
-present [] = []
-present ((_, inl x) ∷ xs) = x ∷ present xs
-present ((_, inr _) ∷ xs) = present xs
-
--- an optional part, behind others that are there
-abbrev pub and_present : {A B C D : Type 0} → (B ⊎ D) → List (A × (B ⊎ C)) → List B
-and_present (inl x) xs = x ∷ present xs
-and_present (inr _) xs = present xs
-
--- an optional list, which is empty where it is left out
-abbrev pub listed : {A B : Type 0} → List A ⊎ B → List A
-listed (inl xs) = xs
-listed (inr _) = []
-
-abbrev pub is_there : {A B : Type 0} → A ⊎ B → Bool
-is_there (inl _) = true
-is_there (inr _) = false
-
--- an optional title
-abbrev pub title : Token ⊎ Unit {0} → Option Text
-title (inl x) = Some x.text
-title (inr _) = None
-
-abbrev pub joined : {A : Type 0} → List (List A) → List A
-joined [] = []
-joined (xs ∷ xss) = xs ++ joined xss
-
--- declarations and routines, in the order in which they are written
-abbrev pub declared : List (List Decl ⊎ Decl) → List Decl
-declared [] = []
-declared (inl xs ∷ more) = xs ++ declared more
-declared (inr x ∷ more) = x ∷ declared more
-
--- `name : expr ;`
-abbrev pub constant : Token × (Token × (Expr × Token)) → Decl
-constant (x, (_, (value, _))) = d.Constant (named x) value
-
--- `name : type ;`
-abbrev pub type_name : Token × (Token × (TypeExpr × Token)) → Decl
-type_name (x, (_, (body, _))) = d.TypeName (named x) body
-
--- `names : type ;`
-abbrev pub variables : List Named × (Token × (TypeExpr × Token)) → Decl
-variables (xs, (_, (body, _))) = d.Variables xs body
-
--- `; names : type`
-abbrev pub field : Token × (List Named × (Token × TypeExpr)) → FieldDecl
-field (_, (xs, (_, body))) = record { names = xs; body = body }
-
--- `elsif expr then stmts`
-abbrev pub arm : Token × (Expr × (Token × List Stmt)) → Arm
-arm (_, (test, (_, body))) = record { test = test; body = body }
-
--- `case implies { , implies } : stmts`
-abbrev pub case_of : Token × (Expr × (List (Token × Expr) × (Token × List Stmt))) → Case
-case_of (_, (x, (xs, (_, body)))) = record { labels = x ∷ seconds xs; body = body }
-
--- `( else stmts )?`
-abbrev pub otherwise : (Token × List Stmt) ⊎ Unit {0} → List Stmt
-otherwise (inl (_, body)) = body
-otherwise (inr _) = []
-
--- `( args? )`
-abbrev pub arguments : Token × ((List Expr ⊎ Unit {0}) × Token) → List Expr
-arguments (_, (args, _)) = listed args
-
--- `( formals? )`
-abbrev pub formals : Token × ((List Formal ⊎ Unit {0}) × Token) → List Formal
-formals (_, (all, _)) = listed all
-
--- `. name | [ expr ]`
-abbrev pub selector_of : (Token × Token) ⊎ (Token × (Expr × Token)) → Selector
-selector_of (inl (_, x)) = selector.Field (named x)
-selector_of (inr (_, (x, _))) = selector.Index x
-
--- `= | != | < | <= | > | >=`
-abbrev pub compare_of : Token ⊎ (Token ⊎ (Token ⊎ (Token ⊎ (Token ⊎ Token)))) → CompareOp
-compare_of (inl _) = compare.Equal
-compare_of (inr (inl _)) = compare.NotEqual
-compare_of (inr (inr (inl _))) = compare.Less
-compare_of (inr (inr (inr (inl _)))) = compare.LessEqual
-compare_of (inr (inr (inr (inr (inl _))))) = compare.Greater
-compare_of (inr (inr (inr (inr (inr _))))) = compare.GreaterEqual
-
--- `| and` and `& not`
-abbrev pub link : ChainOp → Token × Expr → Link
-link op (_, x) = record { op = op; operand = x }
-
--- `( + | - ) product`
-abbrev pub sum_link : (Token ⊎ Token) × Expr → Link
-sum_link (inl _, x) = record { op = chain.Add; operand = x }
-sum_link (inr _, x) = record { op = chain.Subtract; operand = x }
-
--- `( * | / | % ) unary`
-abbrev pub product_link : (Token ⊎ (Token ⊎ Token)) × Expr → Link
-product_link (inl _, x) = record { op = chain.Times; operand = x }
-product_link (inr (inl _), x) = record { op = chain.Divide; operand = x }
-product_link (inr (inr _), x) = record { op = chain.Modulo; operand = x }
-
--- a chain goes from left to right; one operand alone is no chain
-abbrev pub chained : Expr → List Link → Expr
-chained first [] = first
-chained first (x ∷ xs) = e.Chain first (x ∷ xs)
+-- a piece of a form, which none of the forms above calls
+rule (n.Cut p) = piece p
 
 -- what each named form builds of its parts
 abbrev pub build : (name : Name) → TreeOf Token Value (rule name) → Value name
@@ -410,6 +213,7 @@ build n.Primary (inr (inr (inr (inr (inr (inr (inl (x, (_, (place, _)))))))))) =
 build n.Primary (inr (inr (inr (inr (inr (inr (inr (inl (x, (bind, (_, (body, _)))))))))))) = e.Quantified true bind body x.at
 build n.Primary (inr (inr (inr (inr (inr (inr (inr (inr (x, (bind, (_, (body, _)))))))))))) = e.Quantified false bind body x.at
 build n.Place (x, sels) = record { root = named x; selectors = map selector_of sels }
+build (n.Cut p) parts = piece_build p parts
 
 -- the grammar of protocols
 abbrev pub murphi : Grammar

@@ -2,4 +2,5 @@
 //! left-factored form in which one token decides, and the laws that both say the same.
 #![tactic(auto)]
 
+pub mod laws;
 pub mod symbol;
