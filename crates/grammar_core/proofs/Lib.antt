@@ -1,0 +1,13 @@
+pub mod Lists
+pub mod Fronts
+pub mod Sets
+pub mod Sound
+pub mod Sides
+pub mod Determined
+pub mod Parts
+pub mod Tight
+pub mod Rules
+pub mod Theorem
+pub mod Once
+pub mod Alike
+pub mod Alternatives

@@ -1,0 +1,7 @@
+pub mod Decided
+pub mod Agree
+pub mod AgreeAlternatives
+pub mod AgreeTypes
+pub mod AgreeFields
+pub mod Agreement
+pub mod Readings
