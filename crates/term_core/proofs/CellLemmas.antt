@@ -47,7 +47,7 @@ length-choices N (suc count) =
     ∙ sym (pow-succ' N count)
 
 -- and each stands at its place
-choice_at : (N : ℕ) (ns : List ℕ) → list_all (is_node N) ns ≡ true → slice_get (choices N (length ns)) (choice_place N ns) ≡ Some ns
+pub choice_at : (N : ℕ) (ns : List ℕ) → list_all (is_node N) ns ≡ true → slice_get (choices N (length ns)) (choice_place N ns) ≡ Some ns
 choice_at N [] h = refl
 choice_at N (n ∷ ns) h =
     let (low, high) = node_bounds N n (grind (arith, h)) in
@@ -59,6 +59,9 @@ choice_at N (n ∷ ns) h =
     ∙ ap (λ m. slice_get (g m) (choice_place N ns)) this
     ∙ slice_get-map (λ ms. n ∷ ms) (choices N (length ns)) (choice_place N ns)
     ∙ ap (option_map (λ ms. n ∷ ms)) (choice_at N ns rest)
+
+pub choice_there : (N count : ℕ) (ns : List ℕ) → length ns ≡ count → list_all (is_node N) ns ≡ true → slice_get (choices N count) (choice_place N ns) ≡ Some ns
+choice_there N count ns long are = ap (λ m. slice_get (choices N m) (choice_place N ns)) (sym long) ∙ choice_at N ns are
 
 -- the place of a cell among the cells of families, of which the first has this number
 cell_at_place : (N first : ℕ) (fs : List CellFamily) (k : ℕ) (at : List ℕ) → is_cell N fs k at ≡ true → slice_get (cells_from N first fs) (first_place N fs k + choice_place N at) ≡ Some (record { family = first + k; at = at })
@@ -88,18 +91,6 @@ cell_at_place N first (f ∷ fs) (suc k) at h =
 pub places : (N : ℕ) (fs : List CellFamily) (f : ℕ) (at : List ℕ) → is_cell N fs f at ≡ true → slice_get (cells N fs) (place_of N fs f at) ≡ Some (record { family = f; at = at })
 places N fs f at h = cell_at_place N 0 fs f at h ∙ ap (λ m. Some (record { family = m; at = at })) (omega arith)
 
--- the state of a function has its values
-pub filled_value : (N : ℕ) (fs : List CellFamily) (g : ℕ → List ℕ → Value) (f : ℕ) (at : List ℕ) → is_cell N fs f at ≡ true → cell_value N fs (filled N fs g) f at ≡ g f at
-filled_value N fs g f at h =
-    cell_value_is N fs (filled N fs g) f at h
-    ∙ ap (λ o. unwrap_or o v.Undefined) (slice_get-map (λ (c : Cell). g c.family c.at) (cells N fs) (place_of N fs f at) ∙ ap (option_map (λ (c : Cell). g c.family c.at)) (places N fs f at h))
-
--- a cell that is written has the new value
-pub written_value : (N : ℕ) (fs : List CellFamily) (s : State) (f : ℕ) (at : List ℕ) (x : Value) → length s ≡ length (cells N fs) → is_cell N fs f at ≡ true → cell_value N fs (with_cell N fs s f at x) f at ≡ x
-written_value N fs s f at x count h =
-    let within : place_of N fs f at < length s = subst (λ m. place_of N fs f at < m) (sym count) (slice_get_within (cells N fs) (place_of N fs f at) (record { family = f; at = at }) (places N fs f at h)) in
-    cell_value_is N fs (with_cell N fs s f at x) f at h ∙ ap (λ o. unwrap_or o v.Undefined) (get_set_same s (place_of N fs f at) x within)
-
 -- two cells at one place are one
 pub one_cell : (N : ℕ) (fs : List CellFamily) (f g : ℕ) (at other : List ℕ) → is_cell N fs f at ≡ true → is_cell N fs g other ≡ true → nat_eq (place_of N fs g other) (place_of N fs f at) ≡ true → (f ≡ g) × (at ≡ other)
 one_cell N fs f g at other h k was =
@@ -110,21 +101,6 @@ one_cell N fs f g at other h k was =
   where
     some_is : {a b : Cell} → Some a ≡ Some b → a ≡ b
     some_is e = cc
-
--- the cells at other places keep their values
-pub beside_value : (N : ℕ) (fs : List CellFamily) (s : State) (f g : ℕ) (at other : List ℕ) (x : Value) → is_cell N fs g other ≡ true → nat_eq (place_of N fs g other) (place_of N fs f at) ≡ false → cell_value N fs (with_cell N fs s f at x) g other ≡ cell_value N fs s g other
-beside_value N fs s f g at other x k was =
-    cell_value_is N fs (with_cell N fs s f at x) g other k
-    ∙ ap (λ o. unwrap_or o v.Undefined) (get_set_other s (place_of N fs f at) (place_of N fs g other) x was)
-    ∙ sym (cell_value_is N fs s g other k)
-
--- the others keep theirs
-pub other_value : (N : ℕ) (fs : List CellFamily) (s : State) (f g : ℕ) (at other : List ℕ) (x : Value) → is_cell N fs f at ≡ true → is_cell N fs g other ≡ true → ((f ≡ g) × (at ≡ other) → ⊥) → cell_value N fs (with_cell N fs s f at x) g other ≡ cell_value N fs s g other
-other_value N fs s f g at other x h k differ = go (nat_eq (place_of N fs g other) (place_of N fs f at)) refl
-  where
-    go : (b : Bool) → nat_eq (place_of N fs g other) (place_of N fs f at) ≡ b → cell_value N fs (with_cell N fs s f at x) g other ≡ cell_value N fs s g other
-    go false was = beside_value N fs s f g at other x k was
-    go true was = absurd (differ (one_cell N fs f g at other h k was))
 
 get_replicate : {X : Type 0} (x : X) (n k : ℕ) → k < n → slice_get (replicate n x) k ≡ Some x
 get_replicate x zero k h = absurd (omega (arith, h))

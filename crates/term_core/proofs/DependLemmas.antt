@@ -14,21 +14,12 @@ use Rattle.term_core.specs.Forms.{NotForm, IfForm, SameForm, LessForm, ArithForm
 use Rattle.term_core.specs.Meaning.{Cells, value_of, row_all, row_any, row_indices, bound_node, cell_at, holds_at, index_of}
 use Rattle.term_core.specs.Reading.{occurs, row_occurs, cells_read, row_read, cell_read}
 use Rattle.term_core.specs.Cells.{Cell}
-use Rattle.term_core.specs.Substitution.{lifted}
-use Rattle.term_core.proofs.FrameLemmas.{holds_same, get_first, get_past, length-one_more, append_nothing}
-use Rattle.term_core.proofs.SubstitutionLemmas.{if_of, same_of, less_of, arith_on, with_of, lifted_value}
+use Rattle.term_core.proofs.FrameLemmas.{holds_same, get_first, get_past, length-one_more}
+use Rattle.term_core.proofs.SubstitutionLemmas.{if_of, same_of, less_of, arith_on, with_of, first_of, second_of}
 
 -- two frames of one length agree where a test holds
 abbrev Agree : List ℕ → List ℕ → (ℕ → Bool) → Type 0
 Agree frame other test = (k : ℕ) → k < length frame → test k ≡ true → slice_get frame k ≡ slice_get other k
-
-first_of : (a b : Bool) → a ≡ true → (a || b) ≡ true
-first_of true b e = refl
-first_of false b e = cc
-
-second_of : (a b : Bool) → b ≡ true → (a || b) ≡ true
-second_of true b e = refl
-second_of false b e = e
 
 variable_same : (frame other : List ℕ) (k : ℕ) → length frame ≡ length other → Agree frame other (λ j. nat_eq k j) → bound_node frame k ≡ bound_node other k
 variable_same frame other k long agree = go (nat_lt k (length frame)) refl
@@ -158,10 +149,3 @@ mutual
   cells_any N c d frame (more_of-Term x rest) same =
       ap (λ b. truth b || row_any N c frame rest) (cells_matter N c d frame x (same_first c d (cells_read N c frame x) (row_read N c frame rest) same))
       ∙ ap (λ b. truth (value_of N d frame x) || b) (cells_any N c d frame rest (same_second c d (cells_read N c frame x) (row_read N c frame rest) same))
-
--- a term for frames with more variables, which it does not speak of
-pub more_variables : (N : ℕ) (c : Cells) (frame more : List ℕ) (x : Term) → value_of N c (frame ++ more) (lifted (length frame) (length more) x) ≡ value_of N c frame x
-more_variables N c frame more x =
-    ap (λ xs. value_of N c (frame ++ xs) (lifted (length frame) (length more) x)) (sym (append_nothing more))
-    ∙ lifted_value N c frame more [] x
-    ∙ ap (λ fr. value_of N c fr x) (append_nothing frame)

@@ -12,8 +12,8 @@ use Rattle.term_core.specs.declared.term.Term.TheBlock.{hidden-the_row-Term-0, s
 use Rattle.term_core.specs.Nodes.{nodes}
 use Rattle.term_core.specs.Values.{truth, number, same_value, arith}
 use Rattle.term_core.specs.Meaning.{Cells, value_of, row_all, row_any, row_indices, bound_node, cell_at, holds_at, with_index, index_of}
-use Rattle.term_core.specs.Variables.{binders, row_binders}
-use Rattle.term_core.specs.Lists.{list_binders, list_indices}
+use Rattle.term_core.specs.Variables.{nesting, row_nesting}
+use Rattle.term_core.specs.Lists.{list_nesting, list_indices}
 use Rattle.term_core.proofs.PlaceLemmas.{nodes_more, nodes_none, lead_bound, lead_fits, family_known}
 use Rattle.term_core.proofs.ReadLemmas.{read_nothing, read_undefined, read_there}
 
@@ -76,45 +76,45 @@ pub value-Quantified : (N : ℕ) (c : Cells) (fr : List ℕ) (all : Bool) (a : T
 unfolding value_of shape-the_row-Term-1 hidden-the_row-Term-1 hidden
 value-Quantified N c fr all a = refl
 
-row_binders_is : {n : _} (row : Row_of-Term n) → row_binders row ≡ list_binders (items-the_row-Term n row)
-unfolding binders
-row_binders_is end_of-Term = refl
-row_binders_is (more_of-Term x rest) = ap (max (binders x)) (row_binders_is rest)
+row_nesting_is : {n : _} (row : Row_of-Term n) → row_nesting row ≡ list_nesting (items-the_row-Term n row)
+unfolding nesting
+row_nesting_is end_of-Term = refl
+row_nesting_is (more_of-Term x rest) = ap (max (nesting x)) (row_nesting_is rest)
 
-pub binders-Read : (f : ℕ) (ts : List Term) → binders (t.Read f ts) ≡ list_binders ts
-unfolding binders
-binders-Read f ts = row_binders_is (hidden-the_row-Term-0 ts) ∙ ap list_binders (items_hidden-the_row-Term-0 ts)
+pub nesting-Read : (f : ℕ) (ts : List Term) → nesting (t.Read f ts) ≡ list_nesting ts
+unfolding nesting
+nesting-Read f ts = row_nesting_is (hidden-the_row-Term-0 ts) ∙ ap list_nesting (items_hidden-the_row-Term-0 ts)
 
-pub binders-And : (ts : List Term) → binders (t.And ts) ≡ list_binders ts
-unfolding binders
-binders-And ts = row_binders_is (hidden-the_row-Term-0 ts) ∙ ap list_binders (items_hidden-the_row-Term-0 ts)
+pub nesting-And : (ts : List Term) → nesting (t.And ts) ≡ list_nesting ts
+unfolding nesting
+nesting-And ts = row_nesting_is (hidden-the_row-Term-0 ts) ∙ ap list_nesting (items_hidden-the_row-Term-0 ts)
 
-pub binders-Or : (ts : List Term) → binders (t.Or ts) ≡ list_binders ts
-unfolding binders
-binders-Or ts = row_binders_is (hidden-the_row-Term-0 ts) ∙ ap list_binders (items_hidden-the_row-Term-0 ts)
+pub nesting-Or : (ts : List Term) → nesting (t.Or ts) ≡ list_nesting ts
+unfolding nesting
+nesting-Or ts = row_nesting_is (hidden-the_row-Term-0 ts) ∙ ap list_nesting (items_hidden-the_row-Term-0 ts)
 
-pub binders-Not : (a : Term) → binders (t.Not a) ≡ binders a
-unfolding binders shape-the_row-Term-1 hidden-the_row-Term-1 hidden
-binders-Not a = refl
+pub nesting-Not : (a : Term) → nesting (t.Not a) ≡ nesting a
+unfolding nesting shape-the_row-Term-1 hidden-the_row-Term-1 hidden
+nesting-Not a = refl
 
-pub binders-If : (a b d : Term) → binders (t.If a b d) ≡ max (binders a) (max (binders b) (binders d))
-unfolding binders shape-the_row-Term-1 hidden-the_row-Term-1 hidden
-binders-If a b d = refl
+pub nesting-If : (a b d : Term) → nesting (t.If a b d) ≡ max (nesting a) (max (nesting b) (nesting d))
+unfolding nesting shape-the_row-Term-1 hidden-the_row-Term-1 hidden
+nesting-If a b d = refl
 
-pub binders-Same : (a b : Term) → binders (t.Same a b) ≡ max (binders a) (binders b)
-unfolding binders shape-the_row-Term-1 hidden-the_row-Term-1 hidden
-binders-Same a b = refl
+pub nesting-Same : (a b : Term) → nesting (t.Same a b) ≡ max (nesting a) (nesting b)
+unfolding nesting shape-the_row-Term-1 hidden-the_row-Term-1 hidden
+nesting-Same a b = refl
 
-pub binders-Less : (a b : Term) → binders (t.Less a b) ≡ max (binders a) (binders b)
-unfolding binders shape-the_row-Term-1 hidden-the_row-Term-1 hidden
-binders-Less a b = refl
+pub nesting-Less : (a b : Term) → nesting (t.Less a b) ≡ max (nesting a) (nesting b)
+unfolding nesting shape-the_row-Term-1 hidden-the_row-Term-1 hidden
+nesting-Less a b = refl
 
-pub binders-Arith : (op : ArithOp) (a b : Term) → binders (t.Arith op a b) ≡ max (binders a) (binders b)
-unfolding binders shape-the_row-Term-1 hidden-the_row-Term-1 hidden
-binders-Arith op a b = refl
+pub nesting-Arith : (op : ArithOp) (a b : Term) → nesting (t.Arith op a b) ≡ max (nesting a) (nesting b)
+unfolding nesting shape-the_row-Term-1 hidden-the_row-Term-1 hidden
+nesting-Arith op a b = refl
 
-pub binders-Quantified : (all : Bool) (a : Term) → binders (t.Quantified all a) ≡ suc (binders a)
-unfolding binders shape-the_row-Term-1 hidden-the_row-Term-1 hidden
-binders-Quantified all a = refl
+pub nesting-Quantified : (all : Bool) (a : Term) → nesting (t.Quantified all a) ≡ suc (nesting a)
+unfolding nesting shape-the_row-Term-1 hidden-the_row-Term-1 hidden
+nesting-Quantified all a = refl
 
-pub ruleset steps = (value-Known, value-Var, value-Read, value-Not, value-And, value-Or, value-If, value-Same, value-Less, value-Arith, value-Quantified, binders-Read, binders-And, binders-Or, binders-Not, binders-If, binders-Same, binders-Less, binders-Arith, binders-Quantified, nodes_more, nodes_none, family_known, read_nothing, read_undefined, read_there, the_lemmas)
+pub ruleset steps = (value-Known, value-Var, value-Read, value-Not, value-And, value-Or, value-If, value-Same, value-Less, value-Arith, value-Quantified, nesting-Read, nesting-And, nesting-Or, nesting-Not, nesting-If, nesting-Same, nesting-Less, nesting-Arith, nesting-Quantified, nodes_more, nodes_none, family_known, read_nothing, read_undefined, read_there, the_lemmas)

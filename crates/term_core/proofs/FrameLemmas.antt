@@ -1,7 +1,8 @@
 -- Frames: variables of a frame in parts, and tests at all nodes.
-use Rattle.std.proofs.Common.{◌≡◌, ℕ, zero, suc, ◌+◌, ◌-◌, ◌<◌, ◌≤◌, Bool, true, false, ◌&&◌, ◌||◌, cond, List, [], ◌∷◌, ◌++◌, length, set, Some, refl, sym, ap, ◌∙◌, subst, append_assoc, arith}
+use Rattle.std.proofs.Common.{◌≡◌, ℕ, zero, suc, ◌+◌, ◌-◌, ◌<◌, ◌≤◌, Bool, true, false, ◌&&◌, ◌||◌, cond, List, [], ◌∷◌, ◌++◌, length, set, Some, refl, sym, ap, ◌∙◌, subst, arith}
 use Rattle.std.specs.Prelude.{nat_lt, nat_eq, slice_get}
-use Rattle.std.specs.List.{list_all, list_any}
+use Rattle.std.specs.List.{list_all, list_any, All, Contains}
+use Rattle.std.proofs.lemmas.Option.{slice_get_within, slice_get-get_or, get_or_from_slice_get}
 use Rattle.term_core.specs.Meaning.{holds_at}
 
 -- a test that is the same at each node is the same at all or at one
@@ -76,10 +77,6 @@ get_beside xs ys k j n other = go (nat_lt j (length xs)) refl
 pub get_replaced : (xs ys : List ℕ) (k n : ℕ) → k < length xs → slice_get (set xs k n ++ ys) k ≡ Some n
 get_replaced xs ys k n h = get_first (set xs k n) ys k (subst (λ m. k < m) (sym (length-set_node xs k n)) h) ∙ get_set_same xs k n h
 
--- a frame in three parts, and one variable more
-pub append_three : (front more inner : List ℕ) (n : ℕ) → (front ++ (more ++ inner)) ++ n ∷ [] ≡ front ++ (more ++ (inner ++ n ∷ []))
-append_three front more inner n = append_assoc front (more ++ inner) (n ∷ []) ∙ ap (λ xs. front ++ xs) (append_assoc more inner (n ∷ []))
-
 pub length-one_more : (xs : List ℕ) (n : ℕ) → length (xs ++ n ∷ []) ≡ suc (length xs)
 length-one_more [] n = refl
 length-one_more (x ∷ xs) n = ap suc (length-one_more xs n)
@@ -87,3 +84,21 @@ length-one_more (x ∷ xs) n = ap suc (length-one_more xs n)
 pub append_nothing : (xs : List ℕ) → xs ++ [] ≡ xs
 append_nothing [] = refl
 append_nothing (x ∷ xs) = ap (λ ys. x ∷ ys) (append_nothing xs)
+
+-- a fact of each element is one of that at a place
+pub each_at : {X : Type 0} (P : X → Type 0) (xs : List X) (k : ℕ) (x : X) → All P xs → slice_get xs k ≡ Some x → P x
+each_at P xs k x all e = subst P (get_or_from_slice_get xs k x x e) (all k x (slice_get_within xs k x e))
+
+pub no_each : {X : Type 0} (P : X → Type 0) → All P []
+no_each P k d less = absurd (omega (arith, less))
+
+pub one_more_each : {X : Type 0} (P : X → Type 0) (x : X) (xs : List X) → P x → All P xs → All P (x ∷ xs)
+one_more_each P x xs first rest zero d less = first
+one_more_each P x xs first rest (suc k) d less = rest k d (omega (arith, less))
+
+-- an element of a list stands at a place of it
+pub stands_in : {X : Type 0} (xs : List X) (k : ℕ) (x : X) → slice_get xs k ≡ Some x → Contains xs x
+stands_in xs k x e = (k, slice_get_within xs k x e, get_or_from_slice_get xs k x x e)
+
+pub place_in_list : {X : Type 0} (xs : List X) (x : X) → Contains xs x → (k : ℕ) × (slice_get xs k ≡ Some x)
+place_in_list xs x c = (c.0, slice_get-get_or xs c.0 x c.1 ∙ ap Some c.2)

@@ -2,6 +2,7 @@
 pub mod Equations
 pub mod PlaceLemmas
 pub mod ReadLemmas
+pub mod CopyLemmas
 pub mod TreeEquations
 pub mod FrameLemmas
 pub mod SubstitutionLemmas
@@ -11,4 +12,9 @@ pub mod StepLemmas
 pub mod DependLemmas
 pub mod NestingLemmas
 pub mod OrderLemmas
+pub mod TableLemmas
 pub mod StateLemmas
+pub mod FitLemmas
+pub mod ListLemmas
+pub mod AppendLemmas
+pub mod RunLemmas

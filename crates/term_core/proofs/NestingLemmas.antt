@@ -4,17 +4,17 @@ use Rattle.std.specs.Prelude.{nat_le}
 use Rattle.term_core.specs.declared.value.Value.{Value}
 use Rattle.term_core.specs.declared.term.Term as t
 use Rattle.term_core.specs.declared.term.Term.{Term, the_lemmas}
-use Rattle.term_core.specs.Variables.{binders, free_variables}
-use Rattle.term_core.proofs.Equations.{binders-Read, binders-And, binders-Or, binders-Not, binders-If, binders-Same, binders-Less, binders-Arith, binders-Quantified}
+use Rattle.term_core.specs.Variables.{nesting, free_variables}
+use Rattle.term_core.proofs.Equations.{nesting-Read, nesting-And, nesting-Or, nesting-Not, nesting-If, nesting-Same, nesting-Less, nesting-Arith, nesting-Quantified}
 use Rattle.term_core.proofs.VariableLemmas.{variables-Read, variables-And, variables-Or, variables-Not, variables-If, variables-Same, variables-Less, variables-Arith, variables-Quantified}
 
-pub binders-Known : (x : Value) → binders (t.Known x) ≡ 0
-unfolding binders
-binders-Known x = refl
+pub nesting-Known : (x : Value) → nesting (t.Known x) ≡ 0
+unfolding nesting
+nesting-Known x = refl
 
-pub binders-Var : (k : ℕ) → binders (t.Var k) ≡ 0
-unfolding binders
-binders-Var k = refl
+pub nesting-Var : (k : ℕ) → nesting (t.Var k) ≡ 0
+unfolding nesting
+nesting-Var k = refl
 
 pub variables-Known : (x : Value) → free_variables (t.Known x) ≡ 0
 unfolding free_variables
@@ -33,4 +33,4 @@ nests_not a b d h = grind (arith, h)
 pub nests_less : (a d : ℕ) → 0 < d → nat_le (suc a) d ≡ nat_le a (d - 1)
 nests_less a d h = grind (arith, h)
 
-pub ruleset nesting = (binders-Known, binders-Var, binders-Read, binders-And, binders-Or, binders-Not, binders-If, binders-Same, binders-Less, binders-Arith, binders-Quantified, nests_both, nests_not, nests_less, variables-Known, variables-Var, variables-Read, variables-And, variables-Or, variables-Not, variables-If, variables-Same, variables-Less, variables-Arith, variables-Quantified, the_lemmas)
+pub ruleset nested = (nesting-Known, nesting-Var, nesting-Read, nesting-And, nesting-Or, nesting-Not, nesting-If, nesting-Same, nesting-Less, nesting-Arith, nesting-Quantified, nests_both, nests_not, nests_less, variables-Known, variables-Var, variables-Read, variables-And, variables-Or, variables-Not, variables-If, variables-Same, variables-Less, variables-Arith, variables-Quantified, the_lemmas)

@@ -1,8 +1,8 @@
--- Each place of a state is that of a cell, so the values of the cells make a state.
+-- Each place of a state is that of a cell, and each place among the choices that of a choice.
 use Rattle.std.proofs.Common.{◌≡◌, ℕ, zero, suc, ◌+◌, ◌-◌, ◌*◌, ◌^◌, ◌<◌, ◌≤◌, Bool, true, false, ◌&&◌, List, [], ◌∷◌, length, map, Some, refl, sym, ap, ◌∙◌, subst, arith}
 use Rattle.std.specs.Prelude.{nat_lt, nat_eq, slice_get, unwrap_or}
 use Rattle.std.specs.List.{list_all}
-use Rattle.std.proofs.lemmas.Option.{slice_get-get_or, unwrap_or-slice_get}
+use Rattle.std.proofs.lemmas.Option.{slice_get_within}
 use Rattle.std.proofs.lemmas.List.{length-append, length-map}
 use Rattle.std.proofs.Math.Nat.{pow-zero, pow-succ'}
 use Rattle.term_core.specs.declared.value.Value.{Value}
@@ -11,8 +11,7 @@ use Rattle.term_core.specs.declared.machine.CellFamily.{CellFamily}
 use Rattle.term_core.specs.Nodes.{is_node, choices}
 use Rattle.term_core.specs.Cells.{Cell, State, cells, cells_from, is_cell, choice_place, place_of, cell_value}
 use Rattle.term_core.specs.Views.{cell_count}
-use Rattle.term_core.proofs.CellLemmas.{length-choices}
-use Rattle.term_core.proofs.PlaceLemmas.{cell_value_is}
+use Rattle.term_core.proofs.CellLemmas.{length-choices, choice_at, places}
 
 -- a number below so many blocks lies in one of them
 record InBlock (count len i : ℕ) : Type 0 where
@@ -96,32 +95,22 @@ length-cells_from N first (f ∷ fs) =
 pub length-cells : (N : ℕ) (fs : List CellFamily) → length (cells N fs) ≡ cell_count N fs
 length-cells N fs = length-cells_from N 0 fs
 
--- lists of one length that agree at each place are one
-lists_same : (s t : State) → length s ≡ length t → ((i : ℕ) → i < length s → slice_get s i ≡ slice_get t i) → s ≡ t
-lists_same [] [] long same = refl
-lists_same [] (y ∷ ys) long same = let e : 0 ≡ suc (length ys) = long in absurd (omega (arith, e))
-lists_same (x ∷ xs) [] long same = let e : suc (length xs) ≡ 0 = long in absurd (omega (arith, e))
-lists_same (x ∷ xs) (y ∷ ys) long same =
-    let head : x ≡ y = some_is (same 0 (omega arith)) in
-    let rest : xs ≡ ys = lists_same xs ys (suc_is long) (λ i less. same (suc i) (omega (arith, less))) in
-    ap (λ z. z ∷ xs) head ∙ ap (λ zs. y ∷ zs) rest
+-- whatever stands among the choices is one, at its place
+pub choices_back : (N count i : ℕ) (ns : List ℕ) → slice_get (choices N count) i ≡ Some ns → (length ns ≡ count) × (list_all (is_node N) ns ≡ true) × (choice_place N ns ≡ i)
+choices_back N count i ns e =
+    let c = choice_of N count i (subst (λ m. i < m) (length-choices N count) (slice_get_within (choices N count) i ns e)) in
+    let same : ns ≡ c.at = some_is (sym e ∙ ap (slice_get (choices N count)) (sym c.place) ∙ ap (λ m. slice_get (choices N m) (choice_place N c.at)) (sym c.count) ∙ choice_at N c.at c.nodes) in
+    (ap length same ∙ c.count, ap (list_all (is_node N)) same ∙ c.nodes, ap (choice_place N) same ∙ c.place)
   where
-    some_is : {a b : Value} → Some a ≡ Some b → a ≡ b
+    some_is : {a b : List ℕ} → Some a ≡ Some b → a ≡ b
     some_is e = cc
 
-    suc_is : {a b : ℕ} → suc a ≡ suc b → a ≡ b
-    suc_is e = omega (arith, e)
-
--- states with one value at each cell are one
-pub states_same : (N : ℕ) (fs : List CellFamily) (s t : State) → length s ≡ length (cells N fs) → length t ≡ length (cells N fs) → ((f : ℕ) (at : List ℕ) → is_cell N fs f at ≡ true → cell_value N fs s f at ≡ cell_value N fs t f at) → s ≡ t
-states_same N fs s t long long' same = lists_same s t (long ∙ sym long') at_place
+-- and among the cells
+pub cells_back : (N : ℕ) (fs : List CellFamily) (i : ℕ) (d : Cell) → slice_get (cells N fs) i ≡ Some d → (is_cell N fs d.family d.at ≡ true) × (place_of N fs d.family d.at ≡ i)
+cells_back N fs i d e =
+    let c = cell_of N fs i (subst (λ m. i < m) (length-cells N fs) (slice_get_within (cells N fs) i d e)) in
+    let same : d ≡ record { family = c.family; at = c.at } = some_is (sym e ∙ ap (slice_get (cells N fs)) (sym c.place) ∙ places N fs c.family c.at c.cell) in
+    (ap (λ (x : Cell). is_cell N fs x.family x.at) same ∙ c.cell, ap (λ (x : Cell). place_of N fs x.family x.at) same ∙ c.place)
   where
-    known : (u : State) (i : ℕ) (c : Stands N fs i) → i < length u → slice_get u i ≡ Some (cell_value N fs u c.family c.at)
-    known u i c less =
-        slice_get-get_or u i v.Undefined less
-        ∙ ap Some (sym (unwrap_or-slice_get u i v.Undefined) ∙ ap (λ k. unwrap_or (slice_get u k) v.Undefined) (sym c.place) ∙ sym (cell_value_is N fs u c.family c.at c.cell))
-
-    at_place : (i : ℕ) → i < length s → slice_get s i ≡ slice_get t i
-    at_place i less =
-        let c = cell_of N fs i (subst (λ m. i < m) (long ∙ length-cells N fs) less) in
-        known s i c less ∙ ap Some (same c.family c.at c.cell) ∙ sym (known t i c (subst (λ m. i < m) (long ∙ sym long') less))
+    some_is : {a b : Cell} → Some a ≡ Some b → a ≡ b
+    some_is e = cc

@@ -12,7 +12,8 @@ use Rattle.term_core.specs.Variables.{has_axes}
 use Rattle.term_core.specs.Cells.{State, IsState, is_cell, place_of, cell_value, with_cell, may_have, family_may_have, blank_value, blank_state}
 use Rattle.term_core.specs.Firing.{IsRun, IsReached}
 use Rattle.term_core.specs.Whole.{IsWhole, HasBlank}
-use Rattle.term_core.proofs.CellLemmas.{written_value, beside_value, one_cell, blank_cell}
+use Rattle.term_core.proofs.CellLemmas.{one_cell, blank_cell}
+use Rattle.term_core.proofs.TableLemmas.{written_value, beside_value}
 use Rattle.term_core.proofs.OrderLemmas.{length-cells}
 use Rattle.term_core.proofs.PlaceLemmas.{cell_axes, length-blank_state}
 use Rattle.term_core.proofs.StepLemmas.{blank_allowed, step_state, start_is_state}
@@ -56,7 +57,7 @@ run_is_state N m s [] whole (k, p, start) = start_is_state N m k p s whole start
 run_is_state N m t (s ∷ earlier) whole (last, before) =
     let (k, p, fires) = last in
     let (r, is_rule, chosen, step) = fires in
-    step_state N m.families s r p t step
+    step_state N m.families s r p t (run_is_state N m s earlier whole before) step
 
 pub reached_is_state : (N : ℕ) (m : TermMachine) (s : State) → IsWhole m → IsReached N m s → IsState N m.families s
 reached_is_state N m s whole (earlier, run) = run_is_state N m s earlier whole run

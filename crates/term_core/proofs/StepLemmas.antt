@@ -11,24 +11,29 @@ use Rattle.term_core.specs.declared.value.Sort.{Sort}
 use Rattle.term_core.specs.declared.value.Sort.TheVariants as sort
 use Rattle.term_core.specs.declared.machine.CellFamily.{CellFamily}
 use Rattle.term_core.specs.declared.machine.Update.{Update}
+use Rattle.term_core.specs.declared.term.Term.{Term}
 use Rattle.term_core.specs.declared.machine.TermRule.{TermRule}
 use Rattle.term_core.specs.declared.machine.TermMachine.{TermMachine}
 use Rattle.term_core.specs.Meaning.{value_of}
 use Rattle.term_core.specs.Values.{is_of_sort}
 use Rattle.term_core.specs.Variables.{has_axes}
 use Rattle.term_core.specs.Cells.{Cell, State, IsState, cells, is_cell, cell_value, filled, may_have, family_may_have, blank_value, blank_state}
-use Rattle.term_core.specs.Firing.{IsEnabled, IsStep, new_value, next_state, start_value, settled, update_for, Starts}
+use Rattle.term_core.specs.Firing.{IsEnabled, IsStep, is_written, new_value, next_state, start_value, settled, update_for, Starts}
 use Rattle.term_core.specs.Whole.{IsWhole, HasBlank, LeavesDefined, holds_zero}
-use Rattle.term_core.proofs.CellLemmas.{filled_value, blank_cell}
+use Rattle.term_core.proofs.CellLemmas.{blank_cell}
+use Rattle.term_core.proofs.TableLemmas.{filled_value}
 use Rattle.term_core.proofs.PlaceLemmas.{cell_axes}
 
 -- values that the cells may have make a step
-pub step_taken : (N : ℕ) (families : List CellFamily) (s : State) (r : TermRule) (p : List ℕ) → IsEnabled N (cell_value N families s) r p → ((f : ℕ) (at : List ℕ) → is_cell N families f at ≡ true → may_have N families f (new_value N (cell_value N families s) r p f at) ≡ true) → IsStep N families s r p (next_state N families s r p)
+pub step_taken : (N : ℕ) (families : List CellFamily) (s : State) (r : TermRule) (p : List ℕ) → IsEnabled N (cell_value N families s) r p
+    → ((f : ℕ) (at : List ℕ) → is_cell N families f at ≡ true → is_written r f ≡ true → may_have N families f (new_value N (cell_value N families s) r p f at) ≡ true)
+    → IsStep N families s r p (next_state N families s r p)
 step_taken N families s r p on may = record { enabled = on; next = refl; allowed = may }
 
 -- any other value makes none
-pub step_refused : (N : ℕ) (families : List CellFamily) (s : State) (r : TermRule) (p : List ℕ) (t : State) (f : ℕ) (at : List ℕ) → is_cell N families f at ≡ true → may_have N families f (new_value N (cell_value N families s) r p f at) ≡ false → IsStep N families s r p t → ⊥
-step_refused N families s r p t f at cell no' step = let both : false ≡ true = sym no' ∙ step.allowed f at cell in cc
+pub step_refused : (N : ℕ) (families : List CellFamily) (s : State) (r : TermRule) (p : List ℕ) (t : State) (f : ℕ) (at : List ℕ)
+    → is_cell N families f at ≡ true → is_written r f ≡ true → may_have N families f (new_value N (cell_value N families s) r p f at) ≡ false → IsStep N families s r p t → ⊥
+step_refused N families s r p t f at cell write no' step = let both : false ≡ true = sym no' ∙ step.allowed f at cell write in cc
 
 -- a cell has its new value
 pub step_cells : (N : ℕ) (families : List CellFamily) (s : State) (r : TermRule) (p : List ℕ) (t : State) (f : ℕ) (at : List ℕ) → IsStep N families s r p t → is_cell N families f at ≡ true → cell_value N families t f at ≡ new_value N (cell_value N families s) r p f at
@@ -38,11 +43,20 @@ step_cells N families s r p t f at step cell = ap (λ u. cell_value N families u
 length-filled : (N : ℕ) (families : List CellFamily) (g : ℕ → List ℕ → Value) → length (filled N families g) ≡ length (cells N families)
 length-filled N families g = length-map (cells N families) (λ (c : Cell). g c.family c.at)
 
+-- the value that a cell gets is one that it may have: a written one as the step asks, another as the state has it
+step_allowed : (N : ℕ) (families : List CellFamily) (s : State) (r : TermRule) (p : List ℕ) (t : State) → IsState N families s → IsStep N families s r p t
+    → (f : ℕ) (at : List ℕ) → is_cell N families f at ≡ true → may_have N families f (new_value N (cell_value N families s) r p f at) ≡ true
+step_allowed N families s r p t is step f at cell = go (update_for r.updates f) refl
+  where
+    go : (o : Option Term) → update_for r.updates f ≡ o → may_have N families f (new_value N (cell_value N families s) r p f at) ≡ true
+    go (Some body) e = step.allowed f at cell (ap (λ u. option_map_or (λ _. true) u false) e)
+    go None e = ap (λ u. may_have N families f (option_map_or (λ body. value_of N (cell_value N families s) (p ++ at) body) u (cell_value N families s f at))) e ∙ is.values f at cell
+
 -- a state comes after a step
-pub step_state : (N : ℕ) (families : List CellFamily) (s : State) (r : TermRule) (p : List ℕ) (t : State) → IsStep N families s r p t → IsState N families t
-step_state N families s r p t step = record {
+pub step_state : (N : ℕ) (families : List CellFamily) (s : State) (r : TermRule) (p : List ℕ) (t : State) → IsState N families s → IsStep N families s r p t → IsState N families t
+step_state N families s r p t is step = record {
   count = ap length step.next ∙ length-filled N families (new_value N (cell_value N families s) r p);
-  values = λ f at cell. ap (may_have N families f) (step_cells N families s r p t f at step cell) ∙ step.allowed f at cell;
+  values = λ f at cell. ap (may_have N families f) (step_cells N families s r p t f at step cell) ∙ step_allowed N families s r p t is step f at cell;
 }
 
 -- where each update is of a family that can be undefined, one that cannot has none
@@ -104,3 +118,10 @@ start_is_state N m k p t whole start =
           ∙ ap (may_have N m.families f) (filled_value N m.families (start_value N m.families r p) f at cell)
           ∙ start_allowed N m.families r p whole.blanks.0 leaves f at cell;
     }
+
+-- a state filled with values that the cells may have is one
+pub filled_is_state : (N : ℕ) (families : List CellFamily) (g : ℕ → List ℕ → Value) → ((f : ℕ) (at : List ℕ) → is_cell N families f at ≡ true → may_have N families f (g f at) ≡ true) → IsState N families (filled N families g)
+filled_is_state N families g may = record {
+  count = length-filled N families g;
+  values = λ f at cell. ap (may_have N families f) (filled_value N families g f at cell) ∙ may f at cell;
+}

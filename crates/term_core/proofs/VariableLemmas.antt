@@ -1,7 +1,8 @@
--- Free variables, and the cells that are read, after lifting and substituting.
-use Rattle.std.proofs.Common.{◌≡◌, ℕ, suc, ◌+◌, ◌-◌, ◌≤◌, Bool, true, false, ◌&&◌, cond, max, List, length, refl, sym, ap, ◌∙◌, subst, arith}
-use Rattle.std.specs.Prelude.{nat_lt, nat_eq}
-use Rattle.std.specs.List.{list_all}
+-- Free variables, and the cells that are read, after variables are replaced.
+use Rattle.std.proofs.Common.{◌≡◌, ℕ, zero, suc, ◌+◌, ◌-◌, ◌≤◌, ◌<◌, Bool, true, false, ◌&&◌, cond, max, List, [], ◌∷◌, length, Option, None, Some, refl, sym, ap, ◌∙◌, subst, arith}
+use Rattle.std.specs.Prelude.{nat_lt, nat_eq, slice_get}
+use Rattle.std.specs.List.{list_all, All}
+use Rattle.std.specs.Option.{option_map_or}
 use denote.Hole.Carrier.{hidden}
 use Rattle.term_core.specs.declared.value.ArithOp.{ArithOp}
 use Rattle.term_core.specs.declared.machine.CellFamily.{CellFamily}
@@ -10,8 +11,9 @@ use Rattle.term_core.specs.declared.term.Term.{Term, Row_of-Term, end_of-Term, m
 use Rattle.term_core.specs.declared.term.Term.TheBlock.{hidden-the_row-Term-0, shape-the_row-Term-1, hidden-the_row-Term-1}
 use Rattle.term_core.specs.Forms.{NotForm, IfForm, SameForm, LessForm, ArithForm, QuantifiedForm}
 use Rattle.term_core.specs.Variables.{free_variables, row_variables, fits, row_fits, row_count, has_axes}
-use Rattle.term_core.specs.Substitution.{lifted, row_lifted, substituted_under, row_substituted}
+use Rattle.term_core.specs.Substitution.{replaced, row_replaced, lifted_variable, lifted, substituted_variable, substituted, placed_variable, placed}
 use Rattle.term_core.specs.Lists.{list_variables}
+use Rattle.term_core.proofs.FrameLemmas.{each_at}
 
 -- the greater of two numbers
 pub max_first : (a b d : ℕ) → max a b ≤ d → a ≤ d
@@ -112,133 +114,127 @@ pub fits-Quantified : (fs : List CellFamily) (all : Bool) (a : Term) → fits fs
 unfolding fits shape-the_row-Term-1 hidden-the_row-Term-1 hidden
 fits-Quantified fs all a = refl
 
-lifted_variable : (depth more d k : ℕ) → depth ≤ d → suc k ≤ d → suc (cond (nat_lt k depth) k (k + more)) ≤ d + more
-lifted_variable depth more d k deep h = go (nat_lt k depth)
+-- what comes in place of variables below one depth has its variables below another
+abbrev pub Bounds : (ℕ → ℕ → Term) → ℕ → ℕ → Type 0
+Bounds by d to = (u k : ℕ) → suc k ≤ d + u → free_variables (by u k) ≤ to + u
+
+mutual
+  unfolding free_variables replaced
+
+  -- replacing variables keeps the free variables below the new depth
+  pub replaced_variables : (by : ℕ → ℕ → Term) (d to under : ℕ) (x : Term) → Bounds by d to → free_variables x ≤ d + under → free_variables (replaced by under x) ≤ to + under
+  replaced_variables by d to under (t.Known x) inside h = omega arith
+  replaced_variables by d to under (t.Var k) inside h = inside under k h
+  replaced_variables by d to under (t.Read' f _ at) inside h = subst (λ m. m ≤ to + under) (sym (variables-Read f (row_replaced by under at))) (replaced_row_variables by d to under at inside h)
+  replaced_variables by d to under (NotForm a) inside h = subst (λ m. m ≤ to + under) (sym (variables-Not (replaced by under a))) (replaced_variables by d to under a inside h)
+  replaced_variables by d to under (t.And' _ parts) inside h = subst (λ m. m ≤ to + under) (sym (variables-And (row_replaced by under parts))) (replaced_row_variables by d to under parts inside h)
+  replaced_variables by d to under (t.Or' _ parts) inside h = subst (λ m. m ≤ to + under) (sym (variables-Or (row_replaced by under parts))) (replaced_row_variables by d to under parts inside h)
+  replaced_variables by d to under (IfForm a b e) inside h =
+      let rest = max_second _ _ (d + under) h in
+      subst (λ m. m ≤ to + under) (sym (variables-If (replaced by under a) (replaced by under b) (replaced by under e)))
+      (max_both _ _ (to + under) (replaced_variables by d to under a inside (max_first _ _ (d + under) h)) (max_both _ _ (to + under) (replaced_variables by d to under b inside (max_first _ _ (d + under) rest)) (replaced_variables by d to under e inside (max_second _ _ (d + under) rest))))
+  replaced_variables by d to under (SameForm a b) inside h = subst (λ m. m ≤ to + under) (sym (variables-Same (replaced by under a) (replaced by under b))) (max_both _ _ (to + under) (replaced_variables by d to under a inside (max_first _ _ (d + under) h)) (replaced_variables by d to under b inside (max_second _ _ (d + under) h)))
+  replaced_variables by d to under (LessForm a b) inside h = subst (λ m. m ≤ to + under) (sym (variables-Less (replaced by under a) (replaced by under b))) (max_both _ _ (to + under) (replaced_variables by d to under a inside (max_first _ _ (d + under) h)) (replaced_variables by d to under b inside (max_second _ _ (d + under) h)))
+  replaced_variables by d to under (ArithForm op a b) inside h = subst (λ m. m ≤ to + under) (sym (variables-Arith op (replaced by under a) (replaced by under b))) (max_both _ _ (to + under) (replaced_variables by d to under a inside (max_first _ _ (d + under) h)) (replaced_variables by d to under b inside (max_second _ _ (d + under) h)))
+  replaced_variables by d to under (QuantifiedForm all a) inside h =
+      let inner = replaced_variables by d to (suc under) a inside (omega (arith, h)) in
+      subst (λ m. m ≤ to + under) (sym (variables-Quantified all (replaced by (suc under) a))) (omega (arith, inner))
+
+  replaced_row_variables : {n : _} (by : ℕ → ℕ → Term) (d to under : ℕ) (row : Row_of-Term n) → Bounds by d to → row_variables row ≤ d + under → list_variables (row_replaced by under row) ≤ to + under
+  replaced_row_variables by d to under end_of-Term inside h = omega arith
+  replaced_row_variables by d to under (more_of-Term x rest) inside h = max_both _ _ (to + under) (replaced_variables by d to under x inside (max_first _ _ (d + under) h)) (replaced_row_variables by d to under rest inside (max_second _ _ (d + under) h))
+
+mutual
+  unfolding fits replaced
+
+  -- and where what comes in fits, it fits as the term did
+  pub replaced_fits : (fs : List CellFamily) (by : ℕ → ℕ → Term) (under : ℕ) (x : Term) → ((u k : ℕ) → fits fs (by u k) ≡ true) → fits fs (replaced by under x) ≡ fits fs x
+  replaced_fits fs by under (t.Known x) h = refl
+  replaced_fits fs by under (t.Var k) h = h under k
+  replaced_fits fs by under (t.Read' f _ at) h = fits-Read fs f (row_replaced by under at) ∙ ap (λ n. has_axes fs f n && list_all (fits fs) (row_replaced by under at)) (replaced_count by under at) ∙ ap (λ b. has_axes fs f (row_count at) && b) (replaced_row_fits fs by under at h)
+  replaced_fits fs by under (NotForm a) h = fits-Not fs (replaced by under a) ∙ replaced_fits fs by under a h
+  replaced_fits fs by under (t.And' _ parts) h = fits-And fs (row_replaced by under parts) ∙ replaced_row_fits fs by under parts h
+  replaced_fits fs by under (t.Or' _ parts) h = fits-Or fs (row_replaced by under parts) ∙ replaced_row_fits fs by under parts h
+  replaced_fits fs by under (IfForm a b e) h =
+      fits-If fs (replaced by under a) (replaced by under b) (replaced by under e)
+      ∙ ap (λ x. x && (fits fs (replaced by under b) && fits fs (replaced by under e))) (replaced_fits fs by under a h) ∙ ap (λ x. fits fs a && (x && fits fs (replaced by under e))) (replaced_fits fs by under b h) ∙ ap (λ x. fits fs a && (fits fs b && x)) (replaced_fits fs by under e h)
+  replaced_fits fs by under (SameForm a b) h = fits-Same fs (replaced by under a) (replaced by under b) ∙ ap (λ x. x && fits fs (replaced by under b)) (replaced_fits fs by under a h) ∙ ap (λ x. fits fs a && x) (replaced_fits fs by under b h)
+  replaced_fits fs by under (LessForm a b) h = fits-Less fs (replaced by under a) (replaced by under b) ∙ ap (λ x. x && fits fs (replaced by under b)) (replaced_fits fs by under a h) ∙ ap (λ x. fits fs a && x) (replaced_fits fs by under b h)
+  replaced_fits fs by under (ArithForm op a b) h = fits-Arith fs op (replaced by under a) (replaced by under b) ∙ ap (λ x. x && fits fs (replaced by under b)) (replaced_fits fs by under a h) ∙ ap (λ x. fits fs a && x) (replaced_fits fs by under b h)
+  replaced_fits fs by under (QuantifiedForm all a) h = fits-Quantified fs all (replaced by (suc under) a) ∙ replaced_fits fs by (suc under) a h
+
+  replaced_row_fits : {n : _} (fs : List CellFamily) (by : ℕ → ℕ → Term) (under : ℕ) (row : Row_of-Term n) → ((u k : ℕ) → fits fs (by u k) ≡ true) → list_all (fits fs) (row_replaced by under row) ≡ row_fits fs row
+  replaced_row_fits fs by under end_of-Term h = refl
+  replaced_row_fits fs by under (more_of-Term x rest) h = ap (λ b. b && list_all (fits fs) (row_replaced by under rest)) (replaced_fits fs by under x h) ∙ ap (λ b. fits fs x && b) (replaced_row_fits fs by under rest h)
+
+  replaced_count : {n : _} (by : ℕ → ℕ → Term) (under : ℕ) (row : Row_of-Term n) → length (row_replaced by under row) ≡ row_count row
+  replaced_count by under end_of-Term = refl
+  replaced_count by under (more_of-Term x rest) = ap suc (replaced_count by under rest)
+
+variable_bound : (depth more d k : ℕ) → depth ≤ d → suc k ≤ d → free_variables (lifted_variable depth more 0 k) ≤ d + more
+unfolding free_variables
+variable_bound depth more d k deep h = go (nat_lt k depth)
   where
     go : (b : Bool) → suc (cond b k (k + more)) ≤ d + more
     go true = omega (arith, h)
     go false = omega (arith, h)
 
-mutual
-  unfolding free_variables lifted
-
-  -- lifting moves the free variables by no more than the variables in between
-  pub lifted_variables : (depth more d : ℕ) (x : Term) → depth ≤ d → free_variables x ≤ d → free_variables (lifted depth more x) ≤ d + more
-  lifted_variables depth more d (t.Known x) deep h = omega arith
-  lifted_variables depth more d (t.Var k) deep h = lifted_variable depth more d k deep h
-  lifted_variables depth more d (t.Read' f _ at) deep h = subst (λ m. m ≤ d + more) (sym (variables-Read f (row_lifted depth more at))) (lifted_row_variables depth more d at deep h)
-  lifted_variables depth more d (NotForm a) deep h = subst (λ m. m ≤ d + more) (sym (variables-Not (lifted depth more a))) (lifted_variables depth more d a deep h)
-  lifted_variables depth more d (t.And' _ parts) deep h = subst (λ m. m ≤ d + more) (sym (variables-And (row_lifted depth more parts))) (lifted_row_variables depth more d parts deep h)
-  lifted_variables depth more d (t.Or' _ parts) deep h = subst (λ m. m ≤ d + more) (sym (variables-Or (row_lifted depth more parts))) (lifted_row_variables depth more d parts deep h)
-  lifted_variables depth more d (IfForm a b e) deep h =
-      let rest = max_second _ _ d h in
-      subst (λ m. m ≤ d + more) (sym (variables-If (lifted depth more a) (lifted depth more b) (lifted depth more e)))
-      (max_both _ _ (d + more) (lifted_variables depth more d a deep (max_first _ _ d h)) (max_both _ _ (d + more) (lifted_variables depth more d b deep (max_first _ _ d rest)) (lifted_variables depth more d e deep (max_second _ _ d rest))))
-  lifted_variables depth more d (SameForm a b) deep h = subst (λ m. m ≤ d + more) (sym (variables-Same (lifted depth more a) (lifted depth more b))) (max_both _ _ (d + more) (lifted_variables depth more d a deep (max_first _ _ d h)) (lifted_variables depth more d b deep (max_second _ _ d h)))
-  lifted_variables depth more d (LessForm a b) deep h = subst (λ m. m ≤ d + more) (sym (variables-Less (lifted depth more a) (lifted depth more b))) (max_both _ _ (d + more) (lifted_variables depth more d a deep (max_first _ _ d h)) (lifted_variables depth more d b deep (max_second _ _ d h)))
-  lifted_variables depth more d (ArithForm op a b) deep h = subst (λ m. m ≤ d + more) (sym (variables-Arith op (lifted depth more a) (lifted depth more b))) (max_both _ _ (d + more) (lifted_variables depth more d a deep (max_first _ _ d h)) (lifted_variables depth more d b deep (max_second _ _ d h)))
-  lifted_variables depth more d (QuantifiedForm all a) deep h =
-      let inner = lifted_variables depth more (suc d) a (omega (arith, deep)) (omega (arith, h)) in
-      subst (λ m. m ≤ d + more) (sym (variables-Quantified all (lifted depth more a))) (omega (arith, inner))
-
-  lifted_row_variables : {n : _} (depth more d : ℕ) (row : Row_of-Term n) → depth ≤ d → row_variables row ≤ d → list_variables (row_lifted depth more row) ≤ d + more
-  lifted_row_variables depth more d end_of-Term deep h = omega arith
-  lifted_row_variables depth more d (more_of-Term x rest) deep h = max_both _ _ (d + more) (lifted_variables depth more d x deep (max_first _ _ d h)) (lifted_row_variables depth more d rest deep (max_second _ _ d h))
-
-substituted_variable : (under depth var k : ℕ) (by : Term) → free_variables by ≤ depth → suc k ≤ depth + under → free_variables (cond (nat_eq k var) (lifted depth under by) (t.Var k)) ≤ depth + under
-unfolding free_variables
-substituted_variable under depth var k by inside h = go (nat_eq k var)
+-- lifting moves the free variables by no more than the variables in between
+pub lifted_variables : (depth more d : ℕ) (x : Term) → depth ≤ d → free_variables x ≤ d → free_variables (lifted depth more x) ≤ d + more
+lifted_variables depth more d x deep h =
+    let b = replaced_variables (lifted_variable depth more) d (d + more) 0 x (λ u k less. move u (variable_bound depth more (d + u) k (omega (arith, deep)) less)) (omega (arith, h)) in
+    omega (arith, b)
   where
-    go : (b : Bool) → free_variables (cond b (lifted depth under by) (t.Var k)) ≤ depth + under
-    go true = lifted_variables depth under depth by (omega arith) inside
-    go false = h
+    move : {m : ℕ} (u : ℕ) → m ≤ (d + u) + more → m ≤ (d + more) + u
+    move u e = omega (arith, e)
 
-mutual
-  unfolding free_variables substituted_under
-
-  -- after substituting all free variables are below the depth
-  pub substituted_variables : (under depth var : ℕ) (by x : Term) → free_variables by ≤ depth → free_variables x ≤ depth + under → free_variables (substituted_under under depth var by x) ≤ depth + under
-  substituted_variables under depth var by (t.Known x) inside h = omega arith
-  substituted_variables under depth var by (t.Var k) inside h = substituted_variable under depth var k by inside h
-  substituted_variables under depth var by (t.Read' f _ at) inside h = subst (λ m. m ≤ depth + under) (sym (variables-Read f (row_substituted under depth var by at))) (substituted_row_variables under depth var by at inside h)
-  substituted_variables under depth var by (NotForm a) inside h = subst (λ m. m ≤ depth + under) (sym (variables-Not (substituted_under under depth var by a))) (substituted_variables under depth var by a inside h)
-  substituted_variables under depth var by (t.And' _ parts) inside h = subst (λ m. m ≤ depth + under) (sym (variables-And (row_substituted under depth var by parts))) (substituted_row_variables under depth var by parts inside h)
-  substituted_variables under depth var by (t.Or' _ parts) inside h = subst (λ m. m ≤ depth + under) (sym (variables-Or (row_substituted under depth var by parts))) (substituted_row_variables under depth var by parts inside h)
-  substituted_variables under depth var by (IfForm a b e) inside h =
-      let rest = max_second _ _ (depth + under) h in
-      subst (λ m. m ≤ depth + under) (sym (variables-If (substituted_under under depth var by a) (substituted_under under depth var by b) (substituted_under under depth var by e)))
-      (max_both _ _ (depth + under) (substituted_variables under depth var by a inside (max_first _ _ (depth + under) h)) (max_both _ _ (depth + under) (substituted_variables under depth var by b inside (max_first _ _ (depth + under) rest)) (substituted_variables under depth var by e inside (max_second _ _ (depth + under) rest))))
-  substituted_variables under depth var by (SameForm a b) inside h = subst (λ m. m ≤ depth + under) (sym (variables-Same (substituted_under under depth var by a) (substituted_under under depth var by b))) (max_both _ _ (depth + under) (substituted_variables under depth var by a inside (max_first _ _ (depth + under) h)) (substituted_variables under depth var by b inside (max_second _ _ (depth + under) h)))
-  substituted_variables under depth var by (LessForm a b) inside h = subst (λ m. m ≤ depth + under) (sym (variables-Less (substituted_under under depth var by a) (substituted_under under depth var by b))) (max_both _ _ (depth + under) (substituted_variables under depth var by a inside (max_first _ _ (depth + under) h)) (substituted_variables under depth var by b inside (max_second _ _ (depth + under) h)))
-  substituted_variables under depth var by (ArithForm op a b) inside h = subst (λ m. m ≤ depth + under) (sym (variables-Arith op (substituted_under under depth var by a) (substituted_under under depth var by b))) (max_both _ _ (depth + under) (substituted_variables under depth var by a inside (max_first _ _ (depth + under) h)) (substituted_variables under depth var by b inside (max_second _ _ (depth + under) h)))
-  substituted_variables under depth var by (QuantifiedForm all a) inside h =
-      let inner = substituted_variables (suc under) depth var by a inside (omega (arith, h)) in
-      subst (λ m. m ≤ depth + under) (sym (variables-Quantified all (substituted_under (suc under) depth var by a))) (omega (arith, inner))
-
-  substituted_row_variables : {n : _} (under depth var : ℕ) (by : Term) (row : Row_of-Term n) → free_variables by ≤ depth → row_variables row ≤ depth + under → list_variables (row_substituted under depth var by row) ≤ depth + under
-  substituted_row_variables under depth var by end_of-Term inside h = omega arith
-  substituted_row_variables under depth var by (more_of-Term x rest) inside h = max_both _ _ (depth + under) (substituted_variables under depth var by x inside (max_first _ _ (depth + under) h)) (substituted_row_variables under depth var by rest inside (max_second _ _ (depth + under) h))
-
-mutual
-  unfolding fits lifted
-
-  pub lifted_fits : (fs : List CellFamily) (depth more : ℕ) (x : Term) → fits fs (lifted depth more x) ≡ fits fs x
-  lifted_fits fs depth more (t.Known x) = refl
-  lifted_fits fs depth more (t.Var k) = refl
-  lifted_fits fs depth more (t.Read' f _ at) = fits-Read fs f (row_lifted depth more at) ∙ ap (λ n. has_axes fs f n && list_all (fits fs) (row_lifted depth more at)) (lifted_fits_count depth more at) ∙ ap (λ b. has_axes fs f (row_count at) && b) (lifted_fits_row fs depth more at)
-  lifted_fits fs depth more (NotForm a) = fits-Not fs (lifted depth more a) ∙ lifted_fits fs depth more a
-  lifted_fits fs depth more (t.And' _ parts) = fits-And fs (row_lifted depth more parts) ∙ lifted_fits_row fs depth more parts
-  lifted_fits fs depth more (t.Or' _ parts) = fits-Or fs (row_lifted depth more parts) ∙ lifted_fits_row fs depth more parts
-  lifted_fits fs depth more (IfForm a b e) =
-      fits-If fs (lifted depth more a) (lifted depth more b) (lifted depth more e)
-      ∙ ap (λ x. x && (fits fs (lifted depth more b) && fits fs (lifted depth more e))) (lifted_fits fs depth more a) ∙ ap (λ x. fits fs a && (x && fits fs (lifted depth more e))) (lifted_fits fs depth more b) ∙ ap (λ x. fits fs a && (fits fs b && x)) (lifted_fits fs depth more e)
-  lifted_fits fs depth more (SameForm a b) = fits-Same fs (lifted depth more a) (lifted depth more b) ∙ ap (λ x. x && fits fs (lifted depth more b)) (lifted_fits fs depth more a) ∙ ap (λ x. fits fs a && x) (lifted_fits fs depth more b)
-  lifted_fits fs depth more (LessForm a b) = fits-Less fs (lifted depth more a) (lifted depth more b) ∙ ap (λ x. x && fits fs (lifted depth more b)) (lifted_fits fs depth more a) ∙ ap (λ x. fits fs a && x) (lifted_fits fs depth more b)
-  lifted_fits fs depth more (ArithForm op a b) = fits-Arith fs op (lifted depth more a) (lifted depth more b) ∙ ap (λ x. x && fits fs (lifted depth more b)) (lifted_fits fs depth more a) ∙ ap (λ x. fits fs a && x) (lifted_fits fs depth more b)
-  lifted_fits fs depth more (QuantifiedForm all a) = fits-Quantified fs all (lifted depth more a) ∙ lifted_fits fs depth more a
-
-  lifted_fits_row : {n : _} (fs : List CellFamily) (depth more : ℕ) (row : Row_of-Term n) → list_all (fits fs) (row_lifted depth more row) ≡ row_fits fs row
-  lifted_fits_row fs depth more end_of-Term = refl
-  lifted_fits_row fs depth more (more_of-Term x rest) = ap (λ b. b && list_all (fits fs) (row_lifted depth more rest)) (lifted_fits fs depth more x) ∙ ap (λ b. fits fs x && b) (lifted_fits_row fs depth more rest)
-
-  lifted_fits_count : {n : _} (depth more : ℕ) (row : Row_of-Term n) → length (row_lifted depth more row) ≡ row_count row
-  lifted_fits_count depth more end_of-Term = refl
-  lifted_fits_count depth more (more_of-Term x rest) = ap suc (lifted_fits_count depth more rest)
-
-substituted_variable_fits : (fs : List CellFamily) (under depth var : ℕ) (by : Term) (k : ℕ) → fits fs by ≡ true → fits fs (cond (nat_eq k var) (lifted depth under by) (t.Var k)) ≡ true
+pub lifted_fits : (fs : List CellFamily) (depth more : ℕ) (x : Term) → fits fs (lifted depth more x) ≡ fits fs x
 unfolding fits
-substituted_variable_fits fs under depth var by k h = go (nat_eq k var)
+lifted_fits fs depth more x = replaced_fits fs (lifted_variable depth more) 0 x (λ u k. refl)
+
+var_bound : (k d : ℕ) → suc k ≤ d → free_variables (t.Var k) ≤ d
+unfolding free_variables
+var_bound k d h = h
+
+var_fits : (fs : List CellFamily) (k : ℕ) → fits fs (t.Var k) ≡ true
+unfolding fits
+var_fits fs k = refl
+
+-- after substituting all free variables are below the depth
+pub substituted_below : (depth var : ℕ) (by x : Term) → free_variables by ≤ depth → free_variables x ≤ depth → free_variables (substituted depth var by x) ≤ depth
+substituted_below depth var by x inside h =
+    let b = replaced_variables (substituted_variable depth var by) depth depth 0 x (λ u k less. go u k less (nat_eq k var)) (omega (arith, h)) in
+    omega (arith, b)
   where
-    go : (b : Bool) → fits fs (cond b (lifted depth under by) (t.Var k)) ≡ true
-    go true = lifted_fits fs depth under by ∙ h
-    go false = refl
+    go : (u k : ℕ) → suc k ≤ depth + u → (b : Bool) → free_variables (cond b (lifted depth u by) (t.Var k)) ≤ depth + u
+    go u k less true = lifted_variables depth u depth by (omega arith) inside
+    go u k less false = var_bound k (depth + u) less
 
-mutual
-  unfolding fits substituted_under
+pub substituted_fits : (fs : List CellFamily) (depth var : ℕ) (by x : Term) → fits fs by ≡ true → fits fs (substituted depth var by x) ≡ fits fs x
+substituted_fits fs depth var by x h = replaced_fits fs (substituted_variable depth var by) 0 x (λ u k. go u k (nat_eq k var))
+  where
+    go : (u k : ℕ) (b : Bool) → fits fs (cond b (lifted depth u by) (t.Var k)) ≡ true
+    go u k true = lifted_fits fs depth u by ∙ h
+    go u k false = var_fits fs k
 
-  pub substituted_fits : (fs : List CellFamily) (under depth var : ℕ) (by : Term) (x : Term) → fits fs by ≡ true → fits fs (substituted_under under depth var by x) ≡ fits fs x
-  substituted_fits fs under depth var by (t.Known x) h = refl
-  substituted_fits fs under depth var by (t.Var k) h = substituted_variable_fits fs under depth var by k h
-  substituted_fits fs under depth var by (t.Read' f _ at) h = fits-Read fs f (row_substituted under depth var by at) ∙ ap (λ n. has_axes fs f n && list_all (fits fs) (row_substituted under depth var by at)) (substituted_fits_count under depth var by at) ∙ ap (λ b. has_axes fs f (row_count at) && b) (substituted_fits_row fs under depth var by at h)
-  substituted_fits fs under depth var by (NotForm a) h = fits-Not fs (substituted_under under depth var by a) ∙ substituted_fits fs under depth var by a h
-  substituted_fits fs under depth var by (t.And' _ parts) h = fits-And fs (row_substituted under depth var by parts) ∙ substituted_fits_row fs under depth var by parts h
-  substituted_fits fs under depth var by (t.Or' _ parts) h = fits-Or fs (row_substituted under depth var by parts) ∙ substituted_fits_row fs under depth var by parts h
-  substituted_fits fs under depth var by (IfForm a b e) h =
-      fits-If fs (substituted_under under depth var by a) (substituted_under under depth var by b) (substituted_under under depth var by e)
-      ∙ ap (λ x. x && (fits fs (substituted_under under depth var by b) && fits fs (substituted_under under depth var by e))) (substituted_fits fs under depth var by a h) ∙ ap (λ x. fits fs a && (x && fits fs (substituted_under under depth var by e))) (substituted_fits fs under depth var by b h) ∙ ap (λ x. fits fs a && (fits fs b && x)) (substituted_fits fs under depth var by e h)
-  substituted_fits fs under depth var by (SameForm a b) h = fits-Same fs (substituted_under under depth var by a) (substituted_under under depth var by b) ∙ ap (λ x. x && fits fs (substituted_under under depth var by b)) (substituted_fits fs under depth var by a h) ∙ ap (λ x. fits fs a && x) (substituted_fits fs under depth var by b h)
-  substituted_fits fs under depth var by (LessForm a b) h = fits-Less fs (substituted_under under depth var by a) (substituted_under under depth var by b) ∙ ap (λ x. x && fits fs (substituted_under under depth var by b)) (substituted_fits fs under depth var by a h) ∙ ap (λ x. fits fs a && x) (substituted_fits fs under depth var by b h)
-  substituted_fits fs under depth var by (ArithForm op a b) h = fits-Arith fs op (substituted_under under depth var by a) (substituted_under under depth var by b) ∙ ap (λ x. x && fits fs (substituted_under under depth var by b)) (substituted_fits fs under depth var by a h) ∙ ap (λ x. fits fs a && x) (substituted_fits fs under depth var by b h)
-  substituted_fits fs under depth var by (QuantifiedForm all a) h = fits-Quantified fs all (substituted_under (suc under) depth var by a) ∙ substituted_fits fs (suc under) depth var by a h
+-- after placing they are below the depth that the terms are for, and as far past it as they were past the list
+pub placed_below : (to more : ℕ) (terms : List Term) (x : Term) → All (λ by. free_variables by ≤ to) terms → free_variables x ≤ length terms + more → free_variables (placed to terms x) ≤ to + more
+placed_below to more terms x inside h =
+    let b = replaced_variables (placed_variable to terms) (length terms + more) (to + more) 0 x (λ u k less. go u k less (slice_get terms k) refl) (omega (arith, h)) in
+    omega (arith, b)
+  where
+    past : (ts : List Term) (j : ℕ) → slice_get ts j ≡ None → length ts ≤ j
+    past [] j f = omega arith
+    past (y ∷ ys) zero f = cc
+    past (y ∷ ys) (suc j) f = let b = past ys j f in omega (arith, b)
 
-  substituted_fits_row : {n : _} (fs : List CellFamily) (under depth var : ℕ) (by : Term) (row : Row_of-Term n) → fits fs by ≡ true → list_all (fits fs) (row_substituted under depth var by row) ≡ row_fits fs row
-  substituted_fits_row fs under depth var by end_of-Term h = refl
-  substituted_fits_row fs under depth var by (more_of-Term x rest) h = ap (λ b. b && list_all (fits fs) (row_substituted under depth var by rest)) (substituted_fits fs under depth var by x h) ∙ ap (λ b. fits fs x && b) (substituted_fits_row fs under depth var by rest h)
+    go : (u k : ℕ) → suc k ≤ (length terms + more) + u → (o : Option Term) → slice_get terms k ≡ o → free_variables (option_map_or (lifted to u) o (t.Var (to + (k - length terms)))) ≤ (to + more) + u
+    go u k less (Some by) e = let b = lifted_variables to u to by (omega arith) (each_at (λ z. free_variables z ≤ to) terms k by inside e) in omega (arith, b)
+    go u k less None e = let b = past terms k e in var_bound (to + (k - length terms)) ((to + more) + u) (omega (arith, less, b))
 
-  substituted_fits_count : {n : _} (under depth var : ℕ) (by : Term) (row : Row_of-Term n) → length (row_substituted under depth var by row) ≡ row_count row
-  substituted_fits_count under depth var by end_of-Term = refl
-  substituted_fits_count under depth var by (more_of-Term x rest) = ap suc (substituted_fits_count under depth var by rest)
-
--- the same of a term that stands under no quantifier
-pub substituted_below : (depth var : ℕ) (by x : Term) → free_variables by ≤ depth → free_variables x ≤ depth → free_variables (substituted_under 0 depth var by x) ≤ depth
-substituted_below depth var by x inside h = let b = substituted_variables 0 depth var by x inside (omega (arith, h)) in omega (arith, b)
+pub placed_fits : (fs : List CellFamily) (to : ℕ) (terms : List Term) (x : Term) → All (λ by. fits fs by ≡ true) terms → fits fs (placed to terms x) ≡ fits fs x
+placed_fits fs to terms x h = replaced_fits fs (placed_variable to terms) 0 x (λ u k. go u k (slice_get terms k) refl)
+  where
+    go : (u k : ℕ) (o : Option Term) → slice_get terms k ≡ o → fits fs (option_map_or (lifted to u) o (t.Var (to + (k - length terms)))) ≡ true
+    go u k (Some by) e = lifted_fits fs to u by ∙ each_at (λ z. fits fs z ≡ true) terms k by h e
+    go u k None e = var_fits fs (to + (k - length terms))

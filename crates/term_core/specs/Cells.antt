@@ -6,7 +6,7 @@ use Rattle.term_core.specs.declared.value.Value.{Value}
 use Rattle.term_core.specs.declared.value.Value.TheVariants as value
 use Rattle.term_core.specs.declared.machine.CellFamily.{CellFamily}
 use Rattle.term_core.specs.Nodes.{is_node, choices}
-use Rattle.term_core.specs.Values.{is_of_sort}
+use Rattle.term_core.specs.Values.{is_of_sort, values_of_sort}
 
 -- a cell of a family, which goes by its number, at node indices
 pub record Cell : Type 0 where
@@ -42,26 +42,44 @@ choice_place N (n ∷ ns) = (n - 1) * N ^ length ns + choice_place N ns
 abbrev pub place_of : ℕ → List CellFamily → ℕ → List ℕ → ℕ
 place_of N families f at = first_place N families f + choice_place N at
 
+-- A table has a value of any type for each cell, in the order of the cells.
+
+-- the table that gives each cell the value of a function
+abbrev pub table : {X : Type 0} → ℕ → List CellFamily → (ℕ → List ℕ → X) → List X
+table N families g = map (λ c. g c.family c.at) (cells N families)
+
+-- the value of a table at a cell: that at the cell's place, and another value where there is no such cell
+abbrev pub table_value : {X : Type 0} → ℕ → List CellFamily → X → List X → ℕ → List ℕ → X
+table_value N families none s f at = if is_cell N families f at then unwrap_or (slice_get s (place_of N families f at)) none else none
+
+-- the table in which one cell has another value
+abbrev pub table_with : {X : Type 0} → ℕ → List CellFamily → List X → ℕ → List ℕ → X → List X
+table_with N families s f at new = slice_set s (place_of N families f at) new
+
 -- a state: the values of the cells, in the order of the cells
 abbrev pub State : Type 0
 State = List Value
 
 -- the value of a cell in a state: that at the cell's place, and undefined where there is no such cell
 abbrev pub cell_value : ℕ → List CellFamily → State → ℕ → List ℕ → Value
-cell_value N families s f at = if is_cell N families f at then unwrap_or (slice_get s (place_of N families f at)) value.Undefined else value.Undefined
+cell_value N families s f at = table_value N families value.Undefined s f at
 
 -- the state in which one cell has another value
 abbrev pub with_cell : ℕ → List CellFamily → State → ℕ → List ℕ → Value → State
-with_cell N families s f at new = slice_set s (place_of N families f at) new
+with_cell N families s f at new = table_with N families s f at new
 
 -- the state that gives each cell the value of a function
 abbrev pub filled : ℕ → List CellFamily → (ℕ → List ℕ → Value) → State
-filled N families g = map (λ c. g c.family c.at) (cells N families)
+filled N families g = table N families g
 
 -- whether a cell of a family may have a value
 abbrev pub family_may_have : ℕ → CellFamily → Value → Bool
 family_may_have N family value.Undefined = family.undefined
 family_may_have N family v = is_of_sort N family.sort v
+
+-- the values that a cell of a family may have: undefined first, if it may be that
+abbrev pub family_values : ℕ → CellFamily → List Value
+family_values N family = (if family.undefined then value.Undefined ∷ [] else []) ++ values_of_sort N family.sort
 
 -- whether the cells of the family of this number may have a value
 abbrev pub may_have : ℕ → List CellFamily → ℕ → Value → Bool

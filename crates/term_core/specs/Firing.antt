@@ -2,6 +2,7 @@
 -- parameters. In an update they are the parameters and then the cell's indices, in a piece the parameters
 -- and then its binders. All terms of a step are taken in the state before it.
 use Rattle.std.specs.Prelude.{◌≡◌, ℕ, Bool, true, false, nat_eq, List, [], ◌∷◌, ◌++◌, length, count_by, Option, None, Some, if◌then◌else◌, slice_get, IsTrue}
+use Rattle.std.specs.List.{All}
 use Rattle.std.specs.Option.{option_map_or}
 use Rattle.term_core.specs.declared.value.Value.{Value}
 use Rattle.term_core.specs.declared.value.Value.TheVariants.{Undefined, Node}
@@ -38,14 +39,26 @@ pub record IsFalseFor (N : ℕ) (cells : Cells) (p : List ℕ) (piece : Piece) (
   pub nodes : AreNodes N bound
   pub false_there : holds N cells (p ++ bound) piece.body ≡ false
 
--- some piece of a rule is false for some nodes
-abbrev pub HasFalsePiece : ℕ → Cells → TermRule → List ℕ → Type 0
-HasFalsePiece N cells r p = (k : ℕ) × (piece : Piece) × (slice_get r.ok k ≡ Some piece) × ((bound : List ℕ) × IsFalseFor N cells p piece bound)
+-- a piece is true for all nodes as its binders
+abbrev pub IsTrueForAll : ℕ → Cells → List ℕ → Piece → Type 0
+IsTrueForAll N cells p piece = (bound : List ℕ) → length bound ≡ piece.binders → AreNodes N bound → IsTrue (holds N cells (p ++ bound) piece.body)
+
+-- some piece of a list is false for some nodes
+abbrev pub HasFalsePiece : ℕ → Cells → List Piece → List ℕ → Type 0
+HasFalsePiece N cells pieces p = (k : ℕ) × (piece : Piece) × (slice_get pieces k ≡ Some piece) × ((bound : List ℕ) × IsFalseFor N cells p piece bound)
+
+-- all pieces of a list are true for all nodes
+abbrev pub AllPiecesHold : ℕ → Cells → List Piece → List ℕ → Type 0
+AllPiecesHold N cells pieces p = All (IsTrueForAll N cells p) pieces
 
 -- the term that writes the cells of a family, if there is one
 abbrev pub update_for : List Update → ℕ → Option Term
 update_for [] f = None
 update_for (u ∷ us) f = if nat_eq u.family f then Some u.body else update_for us f
+
+-- whether a rule writes the cells of a family
+abbrev pub is_written : TermRule → ℕ → Bool
+is_written r f = option_map_or (λ _. true) (update_for r.updates f) false
 
 -- what firing a rule makes of a cell: the value of the update of its family, or else its old value
 abbrev pub new_value : ℕ → Cells → TermRule → List ℕ → ℕ → List ℕ → Value
@@ -55,12 +68,12 @@ new_value N cells r p f at = option_map_or (λ body. value_of N cells (p ++ at) 
 abbrev pub next_state : ℕ → List CellFamily → State → TermRule → List ℕ → State
 next_state N families s r p = filled N families (new_value N (cell_value N families s) r p)
 
--- firing a rule leads from one state to the other: its guard is true, and each cell may have the value
--- that it gets
+-- firing a rule leads from one state to the other: its guard is true, and each cell that it writes may have
+-- the value that it gets
 pub record IsStep (N : ℕ) (families : List CellFamily) (s : State) (r : TermRule) (p : List ℕ) (t : State) : Type 0 where
   pub enabled : IsEnabled N (cell_value N families s) r p
   pub next : t ≡ next_state N families s r p
-  pub allowed : (f : ℕ) (at : List ℕ) → IsTrue (is_cell N families f at) → IsTrue (may_have N families f (new_value N (cell_value N families s) r p f at))
+  pub allowed : (f : ℕ) (at : List ℕ) → IsTrue (is_cell N families f at) → IsTrue (is_written r f) → IsTrue (may_have N families f (new_value N (cell_value N families s) r p f at))
 
 -- a value that a cell of this family cannot have counts as undefined
 abbrev pub settled : ℕ → List CellFamily → ℕ → Value → Value
@@ -87,6 +100,17 @@ abbrev pub IsRun : ℕ → TermMachine → List State → Type 0
 IsRun N m [] = ⊥
 IsRun N m (s ∷ []) = (k : ℕ) × (p : List ℕ) × Starts N m k p s
 IsRun N m (t ∷ s ∷ earlier) = ((k : ℕ) × (p : List ℕ) × Fires N m s k p t) × IsRun N m (s ∷ earlier)
+
+-- a start or a rule by its number, with the nodes that it is taken for
+pub record Label : Type 0 where
+  pub number : ℕ
+  pub nodes : List ℕ
+
+-- the run that a start and firings give, the last firing and the last state first
+abbrev pub IsLabelledRun : ℕ → TermMachine → Label → List Label → List State → Type 0
+IsLabelledRun N m start [] (s ∷ []) = Starts N m start.number start.nodes s
+IsLabelledRun N m start (l ∷ ls) (t ∷ s ∷ earlier) = Fires N m s l.number l.nodes t × IsLabelledRun N m start ls (s ∷ earlier)
+IsLabelledRun N m start _ _ = ⊥
 
 -- a state is reached where some run ends in it
 abbrev pub IsReached : ℕ → TermMachine → State → Type 0

@@ -9,5 +9,6 @@ pub mod Reading
 pub mod Firing
 pub mod Whole
 pub mod Substitution
+pub mod Laws
 pub mod Views
 pub mod Lists

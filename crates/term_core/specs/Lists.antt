@@ -2,12 +2,12 @@
 use Rattle.std.specs.Prelude.{ℕ, ◌+◌, ◌-◌, ◌*◌, max, List, [], ◌∷◌, Option, Some, None}
 use Rattle.term_core.specs.declared.term.Term.{Term}
 use Rattle.term_core.specs.Meaning.{Cells, value_of, index_of, with_index}
-use Rattle.term_core.specs.Variables.{binders, free_variables}
+use Rattle.term_core.specs.Variables.{nesting, free_variables}
 
 -- how deep the quantifiers of terms nest
-abbrev pub list_binders : List Term → ℕ
-list_binders [] = 0
-list_binders (t ∷ ts) = max (binders t) (list_binders ts)
+abbrev pub list_nesting : List Term → ℕ
+list_nesting [] = 0
+list_nesting (t ∷ ts) = max (nesting t) (list_nesting ts)
 
 abbrev pub list_variables : List Term → ℕ
 list_variables [] = 0

@@ -1,12 +1,12 @@
 -- Values, and what operators make of them. A value of a wrong kind counts as false or as 0.
-use Rattle.std.specs.Prelude.{ℕ, Bool, true, false, ◌&&◌, not, nat_eq, nat_lt, ◌^◌, ℤ, pos, negsuc, ◌+ℤ◌, ◌-ℤ◌, ◌*ℤ◌, int_le, int_div, int_rem, if◌then◌else◌}
+use Rattle.std.specs.Prelude.{ℕ, suc, Bool, true, false, ◌&&◌, not, nat_eq, nat_lt, ◌^◌, ℤ, pos, negsuc, ◌+ℤ◌, ◌-ℤ◌, ◌*ℤ◌, int_le, int_div, int_rem, if◌then◌else◌, List, [], ◌∷◌, map}
 use Rattle.term_core.specs.declared.value.Value.{Value}
 use Rattle.term_core.specs.declared.value.Value.TheVariants.{Undefined, Truth, Number, Member, Node}
 use Rattle.term_core.specs.declared.value.Sort.{Sort}
 use Rattle.term_core.specs.declared.value.Sort.TheVariants as sort
 use Rattle.term_core.specs.declared.value.ArithOp.{ArithOp}
 use Rattle.term_core.specs.declared.value.ArithOp.TheVariants.{Add, Subtract, Times, Divide, Modulo}
-use Rattle.term_core.specs.Nodes.{is_node}
+use Rattle.term_core.specs.Nodes.{is_node, nodes_from, nodes}
 
 -- the truth of a value
 abbrev pub truth : Value → Bool
@@ -63,3 +63,20 @@ is_of_sort N (sort.Range low high) (Number z) = int_le low z && int_le z high
 is_of_sort N (sort.Members kind count) (Member other index) = nat_eq kind other && nat_lt index count
 is_of_sort N sort.Node (Node n) = is_node N n
 is_of_sort N _ _ = false
+
+-- the numbers from 0 up, below this one
+abbrev pub below : ℕ → List ℕ
+below count = nodes_from 0 count
+
+-- how many whole numbers there are from one to another, given the second less the first
+abbrev pub spanned : ℤ → ℕ
+spanned (pos n) = suc n
+spanned (negsuc n) = 0
+
+-- the values of a sort in order, with N nodes: false and true, the numbers of a range, the members of a kind,
+-- the nodes
+abbrev pub values_of_sort : ℕ → Sort → List Value
+values_of_sort N sort.Truth = Truth false ∷ Truth true ∷ []
+values_of_sort N (sort.Range low high) = map (λ k. Number (low +ℤ pos k)) (below (spanned (high -ℤ low)))
+values_of_sort N (sort.Members kind count) = map (λ index. Member kind index) (below count)
+values_of_sort N sort.Node = map (λ n. Node n) (nodes N)

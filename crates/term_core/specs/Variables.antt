@@ -1,4 +1,4 @@
--- Variables, binders and cells of a term.
+-- The free variables of a term, how deep its quantifiers nest, and whether its reads fit a machine.
 use Rattle.std.specs.Prelude.{ℕ, suc, ◌-◌, max, Bool, true, false, ◌&&◌, nat_eq, List, slice_get}
 use Rattle.std.specs.Option.{option_map_or}
 use Rattle.term_core.specs.declared.value.Value.{Value}
@@ -30,22 +30,22 @@ unfoldable mutual
 
 unfoldable mutual
   -- how deep the quantifiers of a term nest
-  pub binders : Term → ℕ
-  binders (t.Known value) = 0
-  binders (t.Var k) = 0
-  binders (t.Read' family _ at) = row_binders at
-  binders (NotForm body) = binders body
-  binders (t.And' _ parts) = row_binders parts
-  binders (t.Or' _ parts) = row_binders parts
-  binders (IfForm test then' else') = max (binders test) (max (binders then') (binders else'))
-  binders (SameForm left right) = max (binders left) (binders right)
-  binders (LessForm left right) = max (binders left) (binders right)
-  binders (ArithForm op left right) = max (binders left) (binders right)
-  binders (QuantifiedForm all body) = suc (binders body)
+  pub nesting : Term → ℕ
+  nesting (t.Known value) = 0
+  nesting (t.Var k) = 0
+  nesting (t.Read' family _ at) = row_nesting at
+  nesting (NotForm body) = nesting body
+  nesting (t.And' _ parts) = row_nesting parts
+  nesting (t.Or' _ parts) = row_nesting parts
+  nesting (IfForm test then' else') = max (nesting test) (max (nesting then') (nesting else'))
+  nesting (SameForm left right) = max (nesting left) (nesting right)
+  nesting (LessForm left right) = max (nesting left) (nesting right)
+  nesting (ArithForm op left right) = max (nesting left) (nesting right)
+  nesting (QuantifiedForm all body) = suc (nesting body)
 
-  pub row_binders : {n : _} → Row_of-Term n → ℕ
-  row_binders end_of-Term = 0
-  row_binders (more_of-Term first rest) = max (binders first) (row_binders rest)
+  pub row_nesting : {n : _} → Row_of-Term n → ℕ
+  row_nesting end_of-Term = 0
+  row_nesting (more_of-Term first rest) = max (nesting first) (row_nesting rest)
 
 abbrev pub is_no_node : Value → Bool
 is_no_node (Node n) = false

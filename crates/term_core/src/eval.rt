@@ -7,9 +7,9 @@ ghost use Rattle.std.specs.List.{list_all, list_any};
 ghost use Rattle.term_core.specs.Nodes.{nodes};
 ghost use Rattle.term_core.specs.Values.{truth};
 ghost use Rattle.term_core.specs.Meaning.{value_of, cell_at, holds_at};
-ghost use Rattle.term_core.specs.Variables.{binders};
+ghost use Rattle.term_core.specs.Variables.{nesting};
 ghost use Rattle.term_core.specs.Views.{cells_of};
-ghost use Rattle.term_core.specs.Lists.{list_binders, list_indices, list_place};
+ghost use Rattle.term_core.specs.Lists.{list_nesting, list_indices, list_place};
 
 use crate::frame::Frame;
 use crate::state::NodeState;
@@ -18,10 +18,10 @@ use crate::value::Value;
 
 impl Term {
     /// The value of the term with these nodes as its variables. The frame needs room for its
-    /// binders, and is left as it was. It takes no memory.
+    /// quantifiers, and is left as it was. It takes no memory.
     #[cycle(value)]
     pub fn value(&self, state: &NodeState, frame: &mut Frame) -> Value
-        requires { length frame.old.nodes + binders self.now ≤ frame.old.room }
+        requires { length frame.old.nodes + nesting self.now ≤ frame.old.room }
         ensures value { result ≡ value_of state.now.nodes (cells_of state.now) frame.old.nodes self.now }
         ensures frame { frame.new ≡ frame.old }
     {
@@ -70,7 +70,7 @@ impl Term {
 /// Whether all terms are true.
 #[cycle(value)]
 fn all_hold(parts: &[Term], state: &NodeState, frame: &mut Frame) -> bool
-    requires { length frame.old.nodes + list_binders parts.now ≤ frame.old.room }
+    requires { length frame.old.nodes + list_nesting parts.now ≤ frame.old.room }
     ensures value { result ≡ list_all (λ t. truth (value_of state.now.nodes (cells_of state.now) frame.old.nodes t)) parts.now }
     ensures frame { frame.new ≡ frame.old }
 {
@@ -85,7 +85,7 @@ fn all_hold(parts: &[Term], state: &NodeState, frame: &mut Frame) -> bool
 /// Whether one of the terms is true.
 #[cycle(value)]
 fn one_holds(parts: &[Term], state: &NodeState, frame: &mut Frame) -> bool
-    requires { length frame.old.nodes + list_binders parts.now ≤ frame.old.room }
+    requires { length frame.old.nodes + list_nesting parts.now ≤ frame.old.room }
     ensures value { result ≡ list_any (λ t. truth (value_of state.now.nodes (cells_of state.now) frame.old.nodes t)) parts.now }
     ensures frame { frame.new ≡ frame.old }
 {
@@ -100,7 +100,7 @@ fn one_holds(parts: &[Term], state: &NodeState, frame: &mut Frame) -> bool
 /// Whether a term is true with this node as the next variable.
 #[cycle(value)]
 fn holds_with(node: u32, body: &Term, state: &NodeState, frame: &mut Frame) -> bool
-    requires { length frame.old.nodes + suc (binders body.now) ≤ frame.old.room }
+    requires { length frame.old.nodes + suc (nesting body.now) ≤ frame.old.room }
     ensures value { result ≡ truth (value_of state.now.nodes (cells_of state.now) (frame.old.nodes ++ node ∷ []) body.now) }
     ensures frame { frame.new ≡ frame.old }
 {
@@ -113,7 +113,7 @@ fn holds_with(node: u32, body: &Term, state: &NodeState, frame: &mut Frame) -> b
 /// Whether a term is true with each node as the next variable.
 #[cycle(value)]
 fn holds_for_all(body: &Term, state: &NodeState, frame: &mut Frame) -> bool
-    requires { length frame.old.nodes + suc (binders body.now) ≤ frame.old.room }
+    requires { length frame.old.nodes + suc (nesting body.now) ≤ frame.old.room }
     ensures value { result ≡ holds_at true (λ n. truth (value_of state.now.nodes (cells_of state.now) (frame.old.nodes ++ n ∷ []) body.now)) (nodes state.now.nodes) }
     ensures frame { frame.new ≡ frame.old }
 {
@@ -129,7 +129,7 @@ fn holds_for_all(body: &Term, state: &NodeState, frame: &mut Frame) -> bool
 /// Whether a term is true with some node as the next variable.
 #[cycle(value)]
 fn holds_for_one(body: &Term, state: &NodeState, frame: &mut Frame) -> bool
-    requires { length frame.old.nodes + suc (binders body.now) ≤ frame.old.room }
+    requires { length frame.old.nodes + suc (nesting body.now) ≤ frame.old.room }
     ensures value { result ≡ holds_at false (λ n. truth (value_of state.now.nodes (cells_of state.now) (frame.old.nodes ++ n ∷ []) body.now)) (nodes state.now.nodes) }
     ensures frame { frame.new ≡ frame.old }
 {
@@ -145,7 +145,7 @@ fn holds_for_one(body: &Term, state: &NodeState, frame: &mut Frame) -> bool
 /// The value of the cell of a family at the nodes that terms stand for.
 #[cycle(value)]
 fn read(family: u32, at: &[Term], state: &NodeState, frame: &mut Frame) -> Value
-    requires { length frame.old.nodes + list_binders at.now ≤ frame.old.room }
+    requires { length frame.old.nodes + list_nesting at.now ≤ frame.old.room }
     ensures value { result ≡ cell_at (cells_of state.now) family (list_indices state.now.nodes (cells_of state.now) frame.old.nodes at.now) }
     ensures frame { frame.new ≡ frame.old }
 {
@@ -161,7 +161,7 @@ fn read(family: u32, at: &[Term], state: &NodeState, frame: &mut Frame) -> Value
 /// The place in its family of the cell at the nodes that terms stand for.
 #[cycle(value)]
 fn place(at: &[Term], state: &NodeState, frame: &mut Frame) -> Option<usize>
-    requires room { length frame.old.nodes + list_binders at.now ≤ frame.old.room }
+    requires room { length frame.old.nodes + list_nesting at.now ≤ frame.old.room }
     requires fits { state.now.nodes ^ length at.now < 2 ^ 64 }
     ensures value { result ≡ list_place state.now.nodes (cells_of state.now) frame.old.nodes 0 at.now }
     ensures bound { IfSome result (λ p. p < state.now.nodes ^ length at.now) }

@@ -9,10 +9,6 @@ pub mod machine;
 pub mod state;
 pub mod substitute;
 pub mod term;
-#[cfg(test)]
-mod tests;
 pub mod text;
 pub mod value;
 pub mod variables;
-#[cfg(test)]
-mod wrong_kinds;

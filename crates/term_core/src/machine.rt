@@ -64,15 +64,93 @@ pub struct TermMachine {
     pub rules: Items<TermRule>,
 }
 
+impl Kind {
+    /// A kind equal to this one.
+    pub fn copy(&self, alloc: Global) -> Result<Kind, Memory>
+        ensures { IfOk result (λ k. k ≡ self.now) }
+    {
+        let names = copy_texts(alloc, self.names.as_slice())?;
+        Ok(Kind { names })
+    }
+}
+
+impl Piece {
+    /// A piece equal to this one.
+    pub fn copy(&self, alloc: Global) -> Result<Piece, Memory>
+        ensures { IfOk result (λ p. p ≡ self.now) }
+    {
+        let body = self.body.copy(alloc)?;
+        Ok(Piece {
+            binders: self.binders,
+            body,
+        })
+    }
+}
+
+impl Update {
+    /// An update equal to this one.
+    pub fn copy(&self, alloc: Global) -> Result<Update, Memory>
+        ensures { IfOk result (λ u. u ≡ self.now) }
+    {
+        let body = self.body.copy(alloc)?;
+        Ok(Update {
+            family: self.family,
+            body,
+        })
+    }
+}
+
+impl TermRule {
+    /// A rule or start equal to this one.
+    pub fn copy(&self, alloc: Global) -> Result<TermRule, Memory>
+        ensures { IfOk result (λ r. r ≡ self.now) }
+    {
+        let title = self.title.copy(alloc)?;
+        let values = Items::from_slice(alloc, self.values.as_slice())?;
+        let params = copy_texts(alloc, self.params.as_slice())?;
+        let guard = self.guard.copy(alloc)?;
+        let ok = copy_pieces(alloc, self.ok.as_slice())?;
+        let updates = copy_updates(alloc, self.updates.as_slice())?;
+        Ok(TermRule {
+            title,
+            values,
+            params,
+            prefix: self.prefix,
+            guard,
+            ok,
+            updates,
+        })
+    }
+}
+
+impl TermMachine {
+    /// A machine equal to this one.
+    pub fn copy(&self, alloc: Global) -> Result<TermMachine, Memory>
+        ensures { IfOk result (λ m. m ≡ self.now) }
+    {
+        let kinds = copy_kinds(alloc, self.kinds.as_slice())?;
+        let families = copy_families(alloc, self.families.as_slice())?;
+        let starts = copy_rules(alloc, self.starts.as_slice())?;
+        let rules = copy_rules(alloc, self.rules.as_slice())?;
+        Ok(TermMachine {
+            kinds,
+            families,
+            starts,
+            rules,
+        })
+    }
+}
+
 impl CellFamily {
     /// A family equal to this one.
     pub fn copy(&self, alloc: Global) -> Result<CellFamily, Memory>
         ensures { IfOk result (λ f. f ≡ self.now) }
     {
         let name = self.name.copy(alloc)?;
+        let sort = self.sort.copy(alloc)?;
         Ok(CellFamily {
             name,
-            sort: self.sort,
+            sort,
             axes: self.axes,
             undefined: self.undefined,
         })
@@ -100,8 +178,68 @@ impl CellFamily {
     }
 }
 
+/// Texts equal to these.
+pub fn copy_texts(alloc: Global, all: &[Text]) -> Result<Items<Text>, Memory>
+    ensures { IfOk result (λ out. out ≡ all.now) }
+{
+    let mut out = Items::new(alloc);
+    for one in all {
+        let copied = one.copy(alloc)?;
+        out.push(copied)?;
+    }
+    Ok(out)
+}
+
+/// Kinds equal to these.
+pub fn copy_kinds(alloc: Global, all: &[Kind]) -> Result<Items<Kind>, Memory>
+    ensures { IfOk result (λ out. out ≡ all.now) }
+{
+    let mut out = Items::new(alloc);
+    for one in all {
+        let copied = one.copy(alloc)?;
+        out.push(copied)?;
+    }
+    Ok(out)
+}
+
 /// Families equal to these.
 pub fn copy_families(alloc: Global, all: &[CellFamily]) -> Result<Items<CellFamily>, Memory>
+    ensures { IfOk result (λ out. out ≡ all.now) }
+{
+    let mut out = Items::new(alloc);
+    for one in all {
+        let copied = one.copy(alloc)?;
+        out.push(copied)?;
+    }
+    Ok(out)
+}
+
+/// Pieces equal to these.
+pub fn copy_pieces(alloc: Global, all: &[Piece]) -> Result<Items<Piece>, Memory>
+    ensures { IfOk result (λ out. out ≡ all.now) }
+{
+    let mut out = Items::new(alloc);
+    for one in all {
+        let copied = one.copy(alloc)?;
+        out.push(copied)?;
+    }
+    Ok(out)
+}
+
+/// Updates equal to these.
+pub fn copy_updates(alloc: Global, all: &[Update]) -> Result<Items<Update>, Memory>
+    ensures { IfOk result (λ out. out ≡ all.now) }
+{
+    let mut out = Items::new(alloc);
+    for one in all {
+        let copied = one.copy(alloc)?;
+        out.push(copied)?;
+    }
+    Ok(out)
+}
+
+/// Rules or starts equal to these.
+pub fn copy_rules(alloc: Global, all: &[TermRule]) -> Result<Items<TermRule>, Memory>
     ensures { IfOk result (λ out. out ≡ all.now) }
 {
     let mut out = Items::new(alloc);

@@ -9,7 +9,7 @@ ghost use Rattle.term_core.specs.Nodes.{is_node};
 ghost use Rattle.term_core.specs.Meaning.{index_of};
 ghost use Rattle.term_core.specs.Variables.{has_axes};
 ghost use Rattle.term_core.specs.Cells.{is_cell, may_have, with_cell, blank_value, blank_state, first_place, choice_place};
-ghost use Rattle.term_core.specs.Views.{cells_of, places_from};
+ghost use Rattle.term_core.specs.Views.{cells_of, places_from, cell_count};
 
 use crate::machine::{CellFamily, TermMachine, copy_families};
 use crate::text::Memory;
@@ -53,14 +53,35 @@ fn has_axes(families: &[CellFamily], family: usize, count: usize) -> bool
 fn power(nodes: u32, axes: u32) -> Result<usize, Memory>
     ensures { IfOk result (λ count. count ≡ nodes ^ axes) }
 {
-    let mut count: usize = 1;
-    for _axis in 0..axes {
-        count = match count.checked_mul(nodes as usize) {
-            Some(more) => more,
-            None => return Err(Memory),
-        };
+    match (nodes as usize).checked_pow(axes) {
+        Some(count) => Ok(count),
+        None => Err(Memory),
+    }
+}
+
+/// How many cells the families have, if they are no more than 4,294,967,295.
+fn count_cells(nodes: u32, families: &[CellFamily]) -> Result<u32, Memory>
+    ensures { IfOk result (λ count. count ≡ cell_count nodes families.now) }
+{
+    let mut count: u32 = 0;
+    for family in families {
+        let own = power(nodes, family.axes)?;
+        count = add(count, own)?;
     }
     Ok(count)
+}
+
+/// A count and cells more.
+fn add(count: u32, more: usize) -> Result<u32, Memory>
+    ensures { IfOk result (λ sum. sum ≡ count + more) }
+{
+    match u32::try_from(more) {
+        Ok(more) => match count.checked_add(more) {
+            Some(sum) => Ok(sum),
+            None => Err(Memory),
+        },
+        Err(_) => Err(Memory),
+    }
 }
 
 /// Adds a value so many times.
@@ -93,19 +114,17 @@ fn lay_out(
 
 impl NodeState {
     /// The state in which each cell is undefined, or 0 where it cannot be undefined. More than
-    /// 4,294,967,295 cells are answered as want of memory.
+    /// 4,294,967,295 cells are answered as want of memory, before any is taken.
     pub fn make(alloc: Global, machine: &TermMachine, nodes: u32) -> Result<NodeState, Memory>
         ensures nodes { IfOk result (λ s. s.nodes ≡ nodes) }
         ensures families { IfOk result (λ s. s.families ≡ machine.now.families) }
         ensures values { IfOk result (λ s. s.values ≡ blank_state nodes machine.now.families) }
     {
+        let _count = count_cells(nodes, machine.families.as_slice())?;
         let families = copy_families(alloc, machine.families.as_slice())?;
         let mut firsts = Items::new(alloc);
         let mut values = Items::new(alloc);
         lay_out(nodes, families.as_slice(), &mut firsts, &mut values)?;
-        if values.len() > u32::MAX as usize {
-            return Err(Memory);
-        }
         Ok(NodeState {
             nodes,
             families,

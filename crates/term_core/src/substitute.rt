@@ -1,14 +1,14 @@
-//! A term in place of a variable of another.
+//! Terms in place of variables: one walk over a term, which asks at each variable what comes there.
 
 #![tactic(auto, using(crate::proofs::TreeEquations::trees))]
 
 ghost use Rattle.std.specs.Prelude.{◌≡◌, ℕ, ◌+◌, ◌<◌, ◌≤◌, List, length, map, slice_set, IfOk, IsTrue};
-ghost use Rattle.term_core.specs.declared.term.Term.{Var};
+ghost use Rattle.term_core.specs.declared.term.Term.{Term, Var};
 ghost use Rattle.term_core.specs.declared.value.Value.TheVariants.{Node};
 ghost use Rattle.term_core.specs.declared.machine.CellFamily.{CellFamily};
 ghost use Rattle.term_core.specs.Meaning.{Cells, value_of};
 ghost use Rattle.term_core.specs.Variables.{free_variables, fits};
-ghost use Rattle.term_core.specs.Substitution.{lifted, substituted_under, substituted};
+ghost use Rattle.term_core.specs.Substitution.{replaced, lifted_variable, lifted, substituted_variable, substituted, placed_variable, placed};
 
 use crate::term::Term;
 use crate::text::Memory;
@@ -27,20 +27,116 @@ pub fn substitute(alloc: Global, t: &Term, depth: u32, var: u32, by: &Term) -> R
     ensures variables { IfOk result (λ out. free_variables out ≤ depth) }
     ensures reads { IfOk result (λ out. (families : List CellFamily) → IsTrue (fits families t.now) → IsTrue (fits families by.now) → IsTrue (fits families out)) }
 {
-    let place = Place { depth, var, by };
-    let out = substitute_under(alloc, t, 0, &place)?;
+    let one = One { depth, var, by };
+    let out = walk(alloc, t, 0, &one)?;
     Ok(out)
 }
 
-/// What comes in place of which variable, in frames of how many variables.
+/// The term for frames of `to` variables in which all variables of its own frame are replaced at
+/// once: variable k is the k-th of these terms, and the variables past them, which quantifiers bind,
+/// are numbered from `to` up. `laws::placing_keeps_values` says what it means. A number of a variable
+/// that would pass `u32` is answered as want of memory.
+pub fn place(alloc: Global, t: &Term, to: u32, terms: &[Term]) -> Result<Term, Memory>
+    ensures { IfOk result (λ out. out ≡ placed to terms.now t.now) }
+{
+    let all = All { to, terms };
+    let out = walk(alloc, t, 0, &all)?;
+    Ok(out)
+}
+
+/// A term equal to this one.
+pub(crate) fn same(alloc: Global, t: &Term) -> Result<Term, Memory>
+    ensures { IfOk result (λ out. out ≡ t.now) }
+{
+    let out = walk(alloc, t, 0, &Itself)?;
+    Ok(out)
+}
+
+/// What comes in place of variables.
+trait Replacement {
+    /// The term for a variable under so many quantifiers.
+    ghost rule: { Self → ℕ → ℕ → Term };
+
+    fn variable(&self, alloc: Global, under: u32, number: u32) -> Result<Term, Memory>
+        ensures { IfOk result (λ out. out ≡ rule self.now under number) };
+}
+
+/// Each variable by itself.
 #[derive(Clone, Copy)]
-struct Place<'a> {
+struct Itself;
+
+impl Replacement for Itself {
+    ghost rule = { λ _ _ k. Var k };
+
+    fn variable(&self, _alloc: Global, _under: u32, number: u32) -> Result<Term, Memory> {
+        Ok(Term::Var(number))
+    }
+}
+
+/// Room for more variables after the first `depth`.
+#[derive(Clone, Copy)]
+struct Room {
+    depth: u32,
+    more: u32,
+}
+
+impl Replacement for Room {
+    ghost rule = { λ l. lifted_variable l.depth l.more };
+
+    fn variable(&self, _alloc: Global, _under: u32, number: u32) -> Result<Term, Memory> {
+        if number < self.depth {
+            Ok(Term::Var(number))
+        } else {
+            let number = moved(number, self.more)?;
+            Ok(Term::Var(number))
+        }
+    }
+}
+
+/// A term in place of one variable, in frames of how many variables.
+#[derive(Clone, Copy)]
+struct One<'a> {
     depth: u32,
     var: u32,
     by: &'a Term,
 }
 
-/// A number that so many quantifiers move.
+impl<'a> Replacement for One<'a> {
+    ghost rule = { λ o. substituted_variable o.depth o.var o.by.now };
+
+    fn variable(&self, alloc: Global, under: u32, number: u32) -> Result<Term, Memory> {
+        if number == self.var {
+            let out = lift(alloc, self.by, self.depth, under)?;
+            Ok(out)
+        } else {
+            Ok(Term::Var(number))
+        }
+    }
+}
+
+/// Terms in place of all variables, for frames of how many variables.
+#[derive(Clone, Copy)]
+struct All<'a> {
+    to: u32,
+    terms: &'a [Term],
+}
+
+impl<'a> Replacement for All<'a> {
+    ghost rule = { λ a. placed_variable a.to a.terms.now };
+
+    fn variable(&self, alloc: Global, under: u32, number: u32) -> Result<Term, Memory> {
+        let at = number as usize;
+        if at < self.terms.len() {
+            let out = lift(alloc, &self.terms[at], self.to, under)?;
+            Ok(out)
+        } else {
+            let number = past(at - self.terms.len(), self.to)?;
+            Ok(Term::Var(number))
+        }
+    }
+}
+
+/// A number that others move.
 fn moved(number: u32, more: u32) -> Result<u32, Memory>
     ensures { IfOk result (λ n. n ≡ number + more) }
 {
@@ -50,6 +146,27 @@ fn moved(number: u32, more: u32) -> Result<u32, Memory>
     }
 }
 
+/// The number of a variable past those of a frame.
+fn past(inner: usize, to: u32) -> Result<u32, Memory>
+    ensures { IfOk result (λ n. n ≡ to + inner) }
+{
+    match u32::try_from(inner) {
+        Ok(inner) => {
+            let number = moved(to, inner)?;
+            Ok(number)
+        }
+        Err(_) => Err(Memory),
+    }
+}
+
+/// The term for frames of `more` variables more after the first `depth`, which it does not speak of.
+fn lift(alloc: Global, t: &Term, depth: u32, more: u32) -> Result<Term, Memory>
+    ensures { IfOk result (λ out. out ≡ lifted depth more t.now) }
+{
+    let out = walk(alloc, t, 0, &Room { depth, more })?;
+    Ok(out)
+}
+
 fn boxed(alloc: Global, t: Term) -> Result<Boxed<Term>, Memory>
     ensures { IfOk result (λ b. b ≡ t) }
 {
@@ -57,154 +174,55 @@ fn boxed(alloc: Global, t: Term) -> Result<Boxed<Term>, Memory>
     Ok(b)
 }
 
-/// The variable of a term for frames of more variables.
-fn lift_variable(number: u32, depth: u32, more: u32) -> Result<Term, Memory>
-    ensures { IfOk result (λ out. out ≡ lifted depth more (Var number)) }
-{
-    if number < depth {
-        Ok(Term::Var(number))
-    } else {
-        let number = moved(number, more)?;
-        Ok(Term::Var(number))
-    }
-}
-
-/// The term for frames of `more` variables more after the first `depth`, which it does not speak of.
-#[cycle(lift)]
-fn lift(alloc: Global, t: &Term, depth: u32, more: u32) -> Result<Term, Memory>
-    ensures { IfOk result (λ out. out ≡ lifted depth more t.now) }
+/// The term with its variables replaced, under so many quantifiers.
+#[cycle(walk)]
+fn walk<R: Replacement>(alloc: Global, t: &Term, under: u32, by: &R) -> Result<Term, Memory>
+    ensures { IfOk result (λ out. out ≡ replaced (R.rule by.now) under t.now) }
 {
     match t {
         Term::Known(value) => Ok(Term::Known(*value)),
         Term::Var(number) => {
-            let out = lift_variable(*number, depth, more)?;
+            let out = by.variable(alloc, under, *number)?;
             Ok(out)
         }
         Term::Read { family, at } => {
-            let at = lift_all(alloc, at.as_slice(), depth, more)?;
+            let at = walk_all(alloc, at.as_slice(), under, by)?;
             Ok(Term::Read {
                 family: *family,
                 at,
             })
         }
         Term::Not(body) => {
-            let body = lift_boxed(alloc, body, depth, more)?;
+            let body = walk_boxed(alloc, body, under, by)?;
             Ok(Term::Not(body))
         }
         Term::And(parts) => {
-            let parts = lift_all(alloc, parts.as_slice(), depth, more)?;
+            let parts = walk_all(alloc, parts.as_slice(), under, by)?;
             Ok(Term::And(parts))
         }
         Term::Or(parts) => {
-            let parts = lift_all(alloc, parts.as_slice(), depth, more)?;
+            let parts = walk_all(alloc, parts.as_slice(), under, by)?;
             Ok(Term::Or(parts))
         }
         Term::If { test, yes, no } => {
-            let test = lift_boxed(alloc, test, depth, more)?;
-            let yes = lift_boxed(alloc, yes, depth, more)?;
-            let no = lift_boxed(alloc, no, depth, more)?;
+            let test = walk_boxed(alloc, test, under, by)?;
+            let yes = walk_boxed(alloc, yes, under, by)?;
+            let no = walk_boxed(alloc, no, under, by)?;
             Ok(Term::If { test, yes, no })
         }
         Term::Same { left, right } => {
-            let left = lift_boxed(alloc, left, depth, more)?;
-            let right = lift_boxed(alloc, right, depth, more)?;
+            let left = walk_boxed(alloc, left, under, by)?;
+            let right = walk_boxed(alloc, right, under, by)?;
             Ok(Term::Same { left, right })
         }
         Term::Less { left, right } => {
-            let left = lift_boxed(alloc, left, depth, more)?;
-            let right = lift_boxed(alloc, right, depth, more)?;
+            let left = walk_boxed(alloc, left, under, by)?;
+            let right = walk_boxed(alloc, right, under, by)?;
             Ok(Term::Less { left, right })
         }
         Term::Arith { op, left, right } => {
-            let left = lift_boxed(alloc, left, depth, more)?;
-            let right = lift_boxed(alloc, right, depth, more)?;
-            Ok(Term::Arith {
-                op: *op,
-                left,
-                right,
-            })
-        }
-        Term::Quantified { all, body } => {
-            let body = lift_boxed(alloc, body, depth, more)?;
-            Ok(Term::Quantified { all: *all, body })
-        }
-    }
-}
-
-#[cycle(lift)]
-fn lift_boxed(alloc: Global, t: &Boxed<Term>, depth: u32, more: u32) -> Result<Boxed<Term>, Memory>
-    ensures { IfOk result (λ out. out ≡ lifted depth more t.now) }
-{
-    let out = lift(alloc, t.get(), depth, more)?;
-    let out = boxed(alloc, out)?;
-    Ok(out)
-}
-
-#[cycle(lift)]
-fn lift_all(alloc: Global, all: &[Term], depth: u32, more: u32) -> Result<Items<Term>, Memory>
-    ensures { IfOk result (λ out. out ≡ map (lifted depth more) all.now) }
-{
-    let mut out = Items::new(alloc);
-    for one in all {
-        let lifted = lift(alloc, one, depth, more)?;
-        out.push(lifted)?;
-    }
-    Ok(out)
-}
-
-/// The term with another in place of the variable, under so many quantifiers.
-#[cycle(substitute)]
-fn substitute_under(alloc: Global, t: &Term, under: u32, place: &Place<'_>) -> Result<Term, Memory>
-    ensures { IfOk result (λ out. out ≡ substituted_under under place.now.depth place.now.var place.now.by.now t.now) }
-{
-    match t {
-        Term::Known(value) => Ok(Term::Known(*value)),
-        Term::Var(number) => {
-            if *number == place.var {
-                let out = lift(alloc, place.by, place.depth, under)?;
-                Ok(out)
-            } else {
-                Ok(Term::Var(*number))
-            }
-        }
-        Term::Read { family, at } => {
-            let at = substitute_all(alloc, at.as_slice(), under, place)?;
-            Ok(Term::Read {
-                family: *family,
-                at,
-            })
-        }
-        Term::Not(body) => {
-            let body = substitute_boxed(alloc, body, under, place)?;
-            Ok(Term::Not(body))
-        }
-        Term::And(parts) => {
-            let parts = substitute_all(alloc, parts.as_slice(), under, place)?;
-            Ok(Term::And(parts))
-        }
-        Term::Or(parts) => {
-            let parts = substitute_all(alloc, parts.as_slice(), under, place)?;
-            Ok(Term::Or(parts))
-        }
-        Term::If { test, yes, no } => {
-            let test = substitute_boxed(alloc, test, under, place)?;
-            let yes = substitute_boxed(alloc, yes, under, place)?;
-            let no = substitute_boxed(alloc, no, under, place)?;
-            Ok(Term::If { test, yes, no })
-        }
-        Term::Same { left, right } => {
-            let left = substitute_boxed(alloc, left, under, place)?;
-            let right = substitute_boxed(alloc, right, under, place)?;
-            Ok(Term::Same { left, right })
-        }
-        Term::Less { left, right } => {
-            let left = substitute_boxed(alloc, left, under, place)?;
-            let right = substitute_boxed(alloc, right, under, place)?;
-            Ok(Term::Less { left, right })
-        }
-        Term::Arith { op, left, right } => {
-            let left = substitute_boxed(alloc, left, under, place)?;
-            let right = substitute_boxed(alloc, right, under, place)?;
+            let left = walk_boxed(alloc, left, under, by)?;
+            let right = walk_boxed(alloc, right, under, by)?;
             Ok(Term::Arith {
                 op: *op,
                 left,
@@ -213,38 +231,38 @@ fn substitute_under(alloc: Global, t: &Term, under: u32, place: &Place<'_>) -> R
         }
         Term::Quantified { all, body } => {
             let deeper = moved(under, 1)?;
-            let body = substitute_boxed(alloc, body, deeper, place)?;
+            let body = walk_boxed(alloc, body, deeper, by)?;
             Ok(Term::Quantified { all: *all, body })
         }
     }
 }
 
-#[cycle(substitute)]
-fn substitute_boxed(
+#[cycle(walk)]
+fn walk_boxed<R: Replacement>(
     alloc: Global,
     t: &Boxed<Term>,
     under: u32,
-    place: &Place<'_>,
+    by: &R,
 ) -> Result<Boxed<Term>, Memory>
-    ensures { IfOk result (λ out. out ≡ substituted_under under place.now.depth place.now.var place.now.by.now t.now) }
+    ensures { IfOk result (λ out. out ≡ replaced (R.rule by.now) under t.now) }
 {
-    let out = substitute_under(alloc, t.get(), under, place)?;
+    let out = walk(alloc, t.get(), under, by)?;
     let out = boxed(alloc, out)?;
     Ok(out)
 }
 
-#[cycle(substitute)]
-fn substitute_all(
+#[cycle(walk)]
+fn walk_all<R: Replacement>(
     alloc: Global,
     all: &[Term],
     under: u32,
-    place: &Place<'_>,
+    by: &R,
 ) -> Result<Items<Term>, Memory>
-    ensures { IfOk result (λ out. out ≡ map (substituted_under under place.now.depth place.now.var place.now.by.now) all.now) }
+    ensures { IfOk result (λ out. out ≡ map (replaced (R.rule by.now) under) all.now) }
 {
     let mut out = Items::new(alloc);
     for one in all {
-        let done = substitute_under(alloc, one, under, place)?;
+        let done = walk(alloc, one, under, by)?;
         out.push(done)?;
     }
     Ok(out)

@@ -1,9 +1,12 @@
 //! Values of terms and cells, and the sorts of values that cells hold.
 
-ghost use Rattle.std.specs.Prelude.{◌≡◌, ◌↔◌, IsTrue};
+ghost use Rattle.std.specs.Prelude.{◌≡◌, ◌↔◌, IsTrue, IfOk};
 ghost use Rattle.term_core.specs.declared.value.Value.TheVariants.{Number};
 ghost use Rattle.term_core.specs.Nodes.{is_node};
 ghost use Rattle.term_core.specs.Values.{truth, number, same_value, is_of_sort, arith};
+
+use crate::text::Memory;
+use std::alloc::Global;
 
 /// The value of a term or of a cell. Members of a kind are numbered from 0, and with N nodes a node
 /// is a number from 1 to N.
@@ -18,7 +21,7 @@ pub enum Value {
 
 /// What the cells of a family hold besides undefined. The bounds of a range belong to it, and
 /// `count` is the number of members of a kind.
-#[derive(Debug, Clone, Copy, PartialEq, Eq)]
+#[derive(Debug, Drop, PartialEq, Eq)]
 pub enum Sort {
     Truth,
     Range { low: i16, high: i16 },
@@ -87,15 +90,33 @@ pub fn is_node(nodes: u32, node: u32) -> bool
 }
 
 impl Sort {
+    /// A sort equal to this one.
+    pub fn copy(&self, _alloc: Global) -> Result<Sort, Memory>
+        ensures { IfOk result (λ s. s ≡ self.now) }
+    {
+        match self {
+            Sort::Truth => Ok(Sort::Truth),
+            Sort::Range { low, high } => Ok(Sort::Range {
+                low: *low,
+                high: *high,
+            }),
+            Sort::Members { kind, count } => Ok(Sort::Members {
+                kind: *kind,
+                count: *count,
+            }),
+            Sort::Node => Ok(Sort::Node),
+        }
+    }
+
     /// Whether a value is of this sort, with so many nodes. Undefined is of none.
-    pub fn has(self, nodes: u32, value: Value) -> bool
-        ensures { result ≡ is_of_sort nodes self value }
+    pub fn has(&self, nodes: u32, value: Value) -> bool
+        ensures { result ≡ is_of_sort nodes self.now value }
     {
         match (self, value) {
             (Sort::Truth, Value::Truth(_)) => true,
-            (Sort::Range { low, high }, Value::Number(z)) => low <= z && z <= high,
+            (Sort::Range { low, high }, Value::Number(z)) => *low <= z && z <= *high,
             (Sort::Members { kind, count }, Value::Member { kind: other, index }) => {
-                kind == other && u16::from(index) < count
+                *kind == other && u16::from(index) < *count
             }
             (Sort::Node, Value::Node(node)) => is_node(nodes, node),
             _ => false,

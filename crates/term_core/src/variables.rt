@@ -1,10 +1,10 @@
 //! How many variables a term is for, and how deep its quantifiers nest. Nothing here takes memory.
 
-#![tactic(auto, using(crate::proofs::NestingLemmas::nesting))]
+#![tactic(auto, using(crate::proofs::NestingLemmas::nested))]
 
 ghost use Rattle.std.specs.Prelude.{◌≡◌, ◌↔◌, ◌≤◌, nat_le, IsTrue};
-ghost use Rattle.term_core.specs.Variables.{binders, free_variables};
-ghost use Rattle.term_core.specs.Lists.{list_binders, list_variables};
+ghost use Rattle.term_core.specs.Variables.{nesting, free_variables};
+ghost use Rattle.term_core.specs.Lists.{list_nesting, list_variables};
 
 use crate::term::Term;
 
@@ -41,14 +41,14 @@ impl Term {
     /// Whether the quantifiers of the term nest at most this deep, so that a frame with as much
     /// spare room serves for its value. It takes no memory.
     pub fn nests_within(&self, depth: usize) -> bool
-        ensures { IsTrue result ↔ (binders self.now ≤ depth) }
+        ensures { IsTrue result ↔ (nesting self.now ≤ depth) }
     {
         self.nests(depth)
     }
 
     #[cycle(nests)]
     fn nests(&self, depth: usize) -> bool
-        ensures { result ≡ nat_le (binders self.now) depth }
+        ensures { result ≡ nat_le (nesting self.now) depth }
     {
         match self {
             Term::Known(_) | Term::Var(_) => true,
@@ -82,7 +82,7 @@ fn most_variables(all: &[Term]) -> u64
 
 #[cycle(nests)]
 fn all_nest(all: &[Term], depth: usize) -> bool
-    ensures { result ≡ nat_le (list_binders all.now) depth }
+    ensures { result ≡ nat_le (list_nesting all.now) depth }
 {
     for one in all {
         if !one.nests(depth) {

@@ -1,4 +1,5 @@
-use Rattle.term_core.proofs.CellLemmas.{places, filled_value, written_value, other_value, blank_cell}
+use Rattle.term_core.proofs.CellLemmas.{places, blank_cell}
+use Rattle.term_core.proofs.TableLemmas.{filled_value, written_value, other_value}
 use Rattle.term_core.proofs.laws.places_are_those_of_the_cells.Goals as goal
 
 pub returns-clause-places : goal.returns-clause-places

@@ -1,4 +1,4 @@
-use Rattle.term_core.proofs.OrderLemmas.{states_same}
+use Rattle.term_core.proofs.TableLemmas.{states_same}
 use Rattle.term_core.proofs.StateLemmas.{blank_is_state, written_is_state, reached_is_state}
 use Rattle.term_core.proofs.laws.states_have_a_value_at_each_cell.Goals as goal
 

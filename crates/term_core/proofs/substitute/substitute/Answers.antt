@@ -15,4 +15,4 @@ returns-clause-variables c =
 
 pub returns-clause-reads : goal.returns-clause-reads
 returns-clause-reads c fs one other =
-    ap (fits fs) c.in_ok-out.ensures ∙ substituted_fits fs 0 c.args.depth c.args.var c.args.by.now c.args.t.now other ∙ one
+    ap (fits fs) c.in_ok-out.ensures ∙ substituted_fits fs c.args.depth c.args.var c.args.by.now c.args.t.now other ∙ one
