@@ -1,7 +1,6 @@
 //! Bytes that the program keeps, and the want of memory that keeping them may meet.
 
-ghost use Rattle.std.specs.Prelude.{◌≡◌, ◌↔◌, IfOk, IsTrue};
-ghost use Rattle.murphi_ast.specs.Bytes.{lowered};
+ghost use Rattle.std.specs.Prelude.{◌≡◌, IfOk};
 
 use std::alloc::{AllocError, AllocFailed, Global};
 use std::marker::Model;
@@ -53,13 +52,6 @@ impl Text {
         ensures { result.now ≡ self.now }
     {
         self.held.as_slice()
-    }
-
-    /// Whether the text is this word in any case, as key words are read.
-    pub fn eq_ignore_ascii_case(&self, word: &[u8]) -> bool
-        ensures { IsTrue result ↔ (lowered self.now ≡ lowered word.now) }
-    {
-        self.bytes().eq_ignore_ascii_case(word)
     }
 
     /// Another text of the same bytes.

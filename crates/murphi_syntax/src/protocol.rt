@@ -30,7 +30,7 @@ pub enum FlatStop {
     /// The text has something that is not built yet: a word that no flat protocol has, or a ninth
     /// variable. The place is that of the first such word, or else of the ninth name.
     NotBuilt { at: Span },
-    /// The bytes spell no flat protocol. The place is that of a token that does not fit.
+    /// The bytes spell no flat protocol. The place is that of a token that does not fit, or of the end.
     NotFlat { at: Span },
     /// There was no memory.
     Memory,
