@@ -7,3 +7,4 @@ pub mod ClearLemmas
 pub mod EntryLemmas
 pub mod InnerLemmas
 pub mod BodyLemmas
+pub mod RoutineLemmas
