@@ -8,3 +8,4 @@ pub mod EntryLemmas
 pub mod InnerLemmas
 pub mod BodyLemmas
 pub mod RoutineLemmas
+pub mod ListedLemmas
