@@ -9,3 +9,4 @@ pub mod InnerLemmas
 pub mod BodyLemmas
 pub mod RoutineLemmas
 pub mod ListedLemmas
+pub mod StepLemmas

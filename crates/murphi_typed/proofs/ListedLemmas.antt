@@ -30,23 +30,23 @@ abbrev pub Each : {A : Type 0} → (A → Type 0) → List A → Type 0
 Each P [] = Unit {0}
 Each P (x ∷ xs) = P x × Each P xs
 
-each_append : {A : Type 0} (P : A → Type 0) (xs ys : List A) → Each P xs → Each P ys → Each P (xs ++ ys)
+pub each_append : {A : Type 0} (P : A → Type 0) (xs ys : List A) → Each P xs → Each P ys → Each P (xs ++ ys)
 each_append P [] ys a b = b
 each_append P (x ∷ xs) ys a b = (a.0, each_append P xs ys a.1 b)
 
-each_map : {A B : Type 0} (P : B → Type 0) (f : A → B) (xs : List A) → Each (λ x. P (f x)) xs → Each P (map f xs)
+pub each_map : {A B : Type 0} (P : B → Type 0) (f : A → B) (xs : List A) → Each (λ x. P (f x)) xs → Each P (map f xs)
 each_map P f [] a = tt
 each_map P f (x ∷ xs) a = (a.0, each_map P f xs a.1)
 
-each_flat : {A B : Type 0} (P : B → Type 0) (f : A → List B) (xs : List A) → Each (λ x. Each P (f x)) xs → Each P (flat_map f xs)
+pub each_flat : {A B : Type 0} (P : B → Type 0) (f : A → List B) (xs : List A) → Each (λ x. Each P (f x)) xs → Each P (flat_map f xs)
 each_flat P f [] a = tt
 each_flat P f (x ∷ xs) a = each_append P (f x) (flat_map f xs) a.0 (each_flat P f xs a.1)
 
-each_all : {A : Type 0} (P : A → Type 0) (xs : List A) → ((x : A) → P x) → Each P xs
+pub each_all : {A : Type 0} (P : A → Type 0) (xs : List A) → ((x : A) → P x) → Each P xs
 each_all P [] all = tt
 each_all P (x ∷ xs) all = (all x, each_all P xs all)
 
-each_other : {A : Type 0} (P Q : A → Type 0) (xs : List A) → ((x : A) → P x → Q x) → Each P xs → Each Q xs
+pub each_other : {A : Type 0} (P Q : A → Type 0) (xs : List A) → ((x : A) → P x → Q x) → Each P xs → Each Q xs
 each_other P Q [] next a = tt
 each_other P Q (x ∷ xs) next a = (next x a.0, each_other P Q xs next a.1)
 
@@ -85,7 +85,7 @@ row_path_leaf fields (name ∷ path) = row_leaf fields name path
 
 mutual
   unfolding ways leaf_at is_type row_path_leaf
-  ways_lead : (kinds : List Kind) (type : AnyType) → is_type kinds type ≡ true → Each (Leads type) (ways type)
+  pub ways_lead : (kinds : List Kind) (type : AnyType) → is_type kinds type ≡ true → Each (Leads type) (ways type)
   ways_lead kinds (t.Simple type) fine = (refl, tt)
   ways_lead kinds (t.Record' _ fields) fine = each_other (LeadsIn fields) (Leads (t.Record' _ fields)) (row_ways fields) (λ way leads. through way leads) (row_leads kinds fields fine)
     where
