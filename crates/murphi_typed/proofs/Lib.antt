@@ -7,3 +7,6 @@ pub mod ClearLemmas
 pub mod EntryLemmas
 pub mod InnerLemmas
 pub mod BodyLemmas
+pub mod RoutineLemmas
+pub mod ListedLemmas
+pub mod StepLemmas

@@ -1,5 +1,11 @@
 //! What holds of the meaning of every typed protocol: laws, each on a function that does nothing.
 
+ghost use Rattle.std.specs.Prelude.{ℕ, List, IsTrue};
+ghost use Rattle.term_core.specs.declared.value.Value.{Value};
+ghost use Rattle.murphi_typed.specs.declared.protocol.Typed.{Typed};
+ghost use Rattle.murphi_typed.specs.Steps.{State, Starts, Steps, IsReached};
+ghost use Rattle.murphi_typed.specs.WellTyped.{is_well_typed};
+ghost use Rattle.murphi_typed.specs.Keeping.{IsState};
 ghost use Rattle.murphi_typed.specs.Worked.{ExpressionsAreAsWorked, QuantifiersAreAsWorked, AssignmentsAreAsWorked};
 ghost use Rattle.murphi_typed.specs.WorkedBodies.{ChoicesAreAsWorked, CallsAreAsWorked};
 ghost use Rattle.murphi_typed.specs.WorkedSteps.{StepsAreAsWorked, CellsAreAsWorked, PrefixesAreAsWorked, TypesAreAsWorked};
@@ -15,4 +21,12 @@ pub fn worked_cases()
     ensures cells { CellsAreAsWorked }
     ensures prefixes { PrefixesAreAsWorked }
     ensures types { TypesAreAsWorked }
+{}
+
+/// In a well-typed protocol a start leaves a state, and a step leads from a state to a state: each has
+/// the same cells, and each cell is undefined or has a value of its type.
+pub fn steps_keep_the_cells()
+    ensures starts { (N : ℕ) (T : Typed) (k : ℕ) (p : List Value) (t : State) → IsTrue (is_well_typed T) → Starts N T k p t → IsState N T t }
+    ensures steps { (N : ℕ) (T : Typed) (s : State) (k : ℕ) (p : List Value) (t : State) → IsTrue (is_well_typed T) → IsState N T s → Steps N T s k p t → IsState N T t }
+    ensures reached { (N : ℕ) (T : Typed) (s : State) → IsTrue (is_well_typed T) → IsReached N T s → IsState N T s }
 {}
