@@ -5,3 +5,4 @@ pub mod PrefixLemmas
 pub mod FormLemmas
 pub mod FrontLemmas
 pub mod SpellingLemmas
+pub mod PlaceLemmas

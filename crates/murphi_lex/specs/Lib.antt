@@ -2,3 +2,4 @@
 pub mod Scanning
 pub mod Seen
 pub mod Refusals
+pub mod Places

@@ -8,4 +8,4 @@ mod scanning;
 
 pub use murphi_ast::text::Memory;
 pub use murphi_ast::token::{Fault, Span, Token, TokenKind};
-pub use scanning::{LexRefusal, Scanned, one_reading, scan, tokens};
+pub use scanning::{LexRefusal, Scanned, one_reading, places_are_of_the_text, scan, tokens};

@@ -1,10 +1,12 @@
 //! The reading of a whole text: its tokens, and the first fault where it has one.
 
-ghost use Rattle.std.specs.Prelude.{◌≡◌, ℕ, List, Option, IfOk, IfErr, MatchResult, IsTrue};
+ghost use Rattle.std.specs.Prelude.{◌≡◌, ℕ, List, Option, Some, IfOk, IfErr, MatchResult, IsTrue};
 ghost use Rattle.murphi_ast.specs.Bytes.{after, past, start};
 ghost use Rattle.murphi_ast.specs.Spelling.{token_at, end_token, ends_once, IsEnded, Reads, Spells, FaultsFirst};
 ghost use Rattle.murphi_ast.specs.declared.token.Token.{Token};
 ghost use Rattle.murphi_ast.specs.declared.token.Fault.{Fault};
+ghost use Rattle.murphi_ast.specs.declared.token.Span.{Span};
+ghost use Rattle.murphi_lex.specs.Places.{IsPlace, StandsAt, fault_place};
 ghost use Rattle.murphi_lex.specs.Scanning.{text_reading};
 ghost use Rattle.murphi_lex.specs.Seen.{lexeme_seen, reading_seen};
 ghost use Rattle.murphi_lex.specs.Refusals.{IsRefusal, Tells};
@@ -77,6 +79,14 @@ pub fn one_reading()
         Reads start bytes ts e → Reads start bytes us f → (ts ≡ us) × (e ≡ f) }
     ensures some { (bytes : List ℕ) →
         Reads start bytes (text_reading bytes).tokens (text_reading bytes).fault }
+{}
+
+/// A law: the place of each token of a text, and that of its fault, is behind some front of its bytes.
+pub fn places_are_of_the_text()
+    ensures tokens { (bytes : List ℕ) (tokens : List Token) (fault : Option Fault) (at : Span) →
+        Reads start bytes tokens fault → StandsAt tokens at → IsPlace bytes at }
+    ensures faults { (bytes : List ℕ) (tokens : List Token) (fault : Fault) →
+        Reads start bytes tokens (Some fault) → IsPlace bytes (fault_place fault) }
 {}
 
 /// The reading of a text, as it is computed.
