@@ -1,17 +1,16 @@
 -- The place of a cell is where it stands among the cells.
-use Rattle.std.proofs.Common.{◌≡◌, ℕ, zero, suc, ◌+◌, ◌-◌, ◌*◌, ◌^◌, ◌<◌, ◌≤◌, Bool, true, false, List, [], ◌∷◌, ◌++◌, length, map, replicate, Some, refl, sym, ap, ◌∙◌, subst, arith}
+use Rattle.std.proofs.Common.{◌≡◌, ℕ, zero, suc, ◌+◌, ◌-◌, ◌*◌, ◌^◌, ◌<◌, ◌≤◌, true, List, [], ◌∷◌, ◌++◌, length, map, replicate, Some, refl, sym, ap, ◌∙◌, subst, arith}
 use Rattle.std.specs.Prelude.{nat_eq, slice_get, unwrap_or}
 use Rattle.std.specs.List.{list_all, flat_map}
 use Rattle.std.specs.Option.{option_map}
-use Rattle.std.proofs.lemmas.Option.{slice_get-map, slice_get_within}
+use Rattle.std.proofs.lemmas.Option.{slice_get-map}
 use Rattle.std.proofs.lemmas.List.{length-append, length-map, length-replicate}
 use Rattle.std.proofs.Math.Nat.{pow-zero, pow-succ'}
-use Rattle.term_core.specs.declared.value.Value.{Value}
 use Rattle.term_core.specs.declared.value.Value.TheVariants as v
 use Rattle.term_core.specs.declared.machine.CellFamily.{CellFamily}
 use Rattle.term_core.specs.Nodes.{is_node, nodes_from, choices}
-use Rattle.term_core.specs.Cells.{Cell, State, cells, cells_from, is_cell, first_place, choice_place, place_of, cell_value, with_cell, filled, blank_value, blank_state}
-use Rattle.term_core.proofs.FrameLemmas.{get_first, get_past, get_set_same, get_set_other}
+use Rattle.term_core.specs.Cells.{Cell, cells, cells_from, is_cell, first_place, choice_place, place_of, cell_value, blank_value, blank_state}
+use Rattle.term_core.proofs.FrameLemmas.{get_first, get_past}
 use Rattle.term_core.proofs.PlaceLemmas.{node_bounds, choice_bound, cell_axes, cell_nodes, cell_value_is}
 
 -- lists of one length, one after another

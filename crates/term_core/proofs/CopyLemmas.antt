@@ -1,5 +1,5 @@
 -- Replacing each variable by itself changes nothing.
-use Rattle.std.proofs.Common.{◌≡◌, ℕ, suc, List, ◌∷◌, refl, sym, ap, ◌∙◌}
+use Rattle.std.proofs.Common.{◌≡◌, ℕ, suc, ◌∷◌, refl, sym, ap, ◌∙◌}
 use denote.Hole.Carrier.{hidden}
 use Rattle.term_core.specs.declared.term.Term as t
 use Rattle.term_core.specs.declared.term.Term.{Term, Row_of-Term, end_of-Term, more_of-Term, items-the_row-Term, items_shown-the_row-Term-0}

@@ -1,5 +1,5 @@
 -- The values of a sort, and those that a cell may have, as lists.
-use Rattle.std.proofs.Common.{◌≡◌, ℕ, zero, suc, ◌+◌, ◌-◌, ◌<◌, ◌≤◌, Bool, true, false, ◌&&◌, cond, List, [], ◌∷◌, ◌++◌, length, map, Option, Some, None, ◌⊎◌, inl, inr, refl, sym, ap, ◌∙◌, subst, arith, pos}
+use Rattle.std.proofs.Common.{◌≡◌, ℕ, zero, suc, ◌+◌, ◌-◌, ◌<◌, Bool, true, false, ◌&&◌, cond, List, [], ◌∷◌, map, Option, Some, None, ◌⊎◌, inl, inr, refl, sym, ap, ◌∙◌, subst, arith, pos}
 use Rattle.std.proofs.lemmas.Int.{ints}
 use Rattle.std.specs.Prelude.{◌↔◌, ℤ, negsuc, ◌+ℤ◌, ◌-ℤ◌, int_le, nat_eq, nat_lt, slice_get}
 use Rattle.std.specs.List.{Contains}
@@ -12,8 +12,8 @@ use Rattle.term_core.specs.declared.value.Value.TheVariants as v
 use Rattle.term_core.specs.declared.value.Sort.{Sort}
 use Rattle.term_core.specs.declared.value.Sort.TheVariants as sort
 use Rattle.term_core.specs.declared.machine.CellFamily.{CellFamily}
-use Rattle.term_core.specs.Nodes.{is_node, nodes_from, nodes}
-use Rattle.term_core.specs.Values.{is_of_sort, values_of_sort, below, spanned}
+use Rattle.term_core.specs.Nodes.{is_node, nodes_from}
+use Rattle.term_core.specs.Values.{is_of_sort, values_of_sort, spanned}
 use Rattle.term_core.specs.Cells.{family_may_have, family_values}
 use Rattle.term_core.proofs.FrameLemmas.{stands_in, place_in_list}
 use Rattle.term_core.proofs.PlaceLemmas.{node_bounds}

@@ -1,15 +1,13 @@
 -- Each place of a state is that of a cell, and each place among the choices that of a choice.
 use Rattle.std.proofs.Common.{◌≡◌, ℕ, zero, suc, ◌+◌, ◌-◌, ◌*◌, ◌^◌, ◌<◌, ◌≤◌, Bool, true, false, ◌&&◌, List, [], ◌∷◌, length, map, Some, refl, sym, ap, ◌∙◌, subst, arith}
-use Rattle.std.specs.Prelude.{nat_lt, nat_eq, slice_get, unwrap_or}
+use Rattle.std.specs.Prelude.{nat_lt, nat_eq, slice_get}
 use Rattle.std.specs.List.{list_all}
 use Rattle.std.proofs.lemmas.Option.{slice_get_within}
 use Rattle.std.proofs.lemmas.List.{length-append, length-map}
 use Rattle.std.proofs.Math.Nat.{pow-zero, pow-succ'}
-use Rattle.term_core.specs.declared.value.Value.{Value}
-use Rattle.term_core.specs.declared.value.Value.TheVariants as v
 use Rattle.term_core.specs.declared.machine.CellFamily.{CellFamily}
 use Rattle.term_core.specs.Nodes.{is_node, choices}
-use Rattle.term_core.specs.Cells.{Cell, State, cells, cells_from, is_cell, choice_place, place_of, cell_value}
+use Rattle.term_core.specs.Cells.{Cell, cells, cells_from, is_cell, choice_place, place_of}
 use Rattle.term_core.specs.Views.{cell_count}
 use Rattle.term_core.proofs.CellLemmas.{length-choices, choice_at, places}
 

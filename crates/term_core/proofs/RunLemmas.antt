@@ -1,12 +1,12 @@
 -- Pieces hold or fail, and labels give runs.
-use Rattle.std.proofs.Common.{◌≡◌, ◌⊎◌, inl, inr, ℕ, zero, suc, Bool, true, false, ◌&&◌, List, [], ◌∷◌, ◌++◌, length, Some, refl, sym, ap, ◌∙◌, subst, arith}
+use Rattle.std.proofs.Common.{◌≡◌, ◌⊎◌, inl, inr, ℕ, zero, suc, Bool, true, false, ◌&&◌, List, [], ◌∷◌, ◌++◌, Some, refl, sym, ap, ◌∙◌, subst}
 use Rattle.std.specs.Prelude.{slice_get}
-use Rattle.std.specs.List.{list_all, All}
+use Rattle.std.specs.List.{list_all}
 use Rattle.std.proofs.lemmas.Bool.{and_parts}
 use Rattle.term_core.specs.declared.machine.Piece.{Piece}
 use Rattle.term_core.specs.declared.machine.TermRule.{TermRule}
 use Rattle.term_core.specs.declared.machine.TermMachine.{TermMachine}
-use Rattle.term_core.specs.Nodes.{is_node, choices}
+use Rattle.term_core.specs.Nodes.{choices}
 use Rattle.term_core.specs.Meaning.{Cells, holds}
 use Rattle.term_core.specs.Cells.{State, choice_place}
 use Rattle.term_core.specs.Firing.{IsFalseFor, IsTrueForAll, HasFalsePiece, AllPiecesHold, Starts, Fires, Label, IsRun, IsLabelledRun, start_state, next_state}
