@@ -23,19 +23,23 @@ not_read least greatest value r e fits parses err =
 -- a number outside the range is not taken
 pub not_in_range : {E : Type 0} (least greatest number : ℕ) (value : List ℕ) (r : Result ℕ E) → greatest < 2 ^ 32 → ParsesUnsigned 32 10 value r →
     r ≡ Ok number → ((least ≤ number) → (number ≤ greatest) → ⊥) → Decides false (IsTaken (takes.Number least greatest) value)
-not_in_range least greatest number value r fits parses ok out =
-    (λ f. cc, λ taken.
+not_in_range least greatest number value r fits parses ok out = (
+  λ f. cc,
+  λ taken.
       let same : r ≡ Ok taken.0 = is_read taken.0 greatest value r fits parses taken.1 taken.3 in
       let is : taken.0 ≡ number = cc in
-      absurd (out (subst (λ n. least ≤ n) is taken.2) (subst (λ n. n ≤ greatest) is taken.3)))
+      absurd (out (subst (λ n. least ≤ n) is taken.2) (subst (λ n. n ≤ greatest) is taken.3)),
+)
 
 -- one within it is taken where the value is written so
 pub in_range : {E : Type 0} (least greatest number : ℕ) (value : List ℕ) (r : Result ℕ E) (b : Bool) → greatest < 2 ^ 32 → ParsesUnsigned 32 10 value r →
     r ≡ Ok number → least ≤ number → number ≤ greatest → Decides b (value ≡ decimal number) → Decides b (IsTaken (takes.Number least greatest) value)
-in_range least greatest number value r b fits parses ok low high written =
-    (λ t. (number, written.0 t, low, high), λ taken.
+in_range least greatest number value r b fits parses ok low high written = (
+  λ t. (number, written.0 t, low, high),
+  λ taken.
       let same : r ≡ Ok taken.0 = is_read taken.0 greatest value r fits parses taken.1 taken.3 in
       let is : taken.0 ≡ number = cc in
-      written.1 (subst (λ n. value ≡ decimal n) is taken.1))
+      written.1 (subst (λ n. value ≡ decimal n) is taken.1),
+)
 
 pub ruleset numbers = (not_read, not_in_range, in_range)
