@@ -51,11 +51,12 @@ def write(name, formula, asked):
             f.write(' '.join(['a'] + [str(l) for l in a + [0]]) + '\n')
 
 
-write('pigeons_7_6', pigeonhole(7, 6), [[]])
-for seed in range(10):
-    write(f'random_150_{seed}', random_3sat(150, 4.26, seed), [[]])
-write('chain_10000', chain(10000), [[]])
-write('chain_100000', chain(100000), [[]])
-write('calls_easy', random_3sat(150, 3.0, 5), calls(150, 2000, 8, 6))
-write('calls_wide', random_3sat(2000, 3.0, 5), calls(2000, 2000, 30, 6))
-write('calls_hard', random_3sat(150, 3.8, 99), calls(150, 2000, 8, 7))
+if __name__ == '__main__':
+    write('pigeons_7_6', pigeonhole(7, 6), [[]])
+    for seed in range(10):
+        write(f'random_150_{seed}', random_3sat(150, 4.26, seed), [[]])
+    write('chain_10000', chain(10000), [[]])
+    write('chain_100000', chain(100000), [[]])
+    write('calls_easy', random_3sat(150, 3.0, 5), calls(150, 2000, 8, 6))
+    write('calls_wide', random_3sat(2000, 3.0, 5), calls(2000, 2000, 30, 6))
+    write('calls_hard', random_3sat(150, 3.8, 99), calls(150, 2000, 8, 7))

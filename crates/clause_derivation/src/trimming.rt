@@ -13,8 +13,10 @@ use std::alloc::Global;
 fn want(needed: &mut [bool], base: usize, below: usize, number: u32)
     requires { below ≤ length needed.old }
     ensures wanted { IsWanted base below needed.new number }
-    ensures kept { (k : ℕ) → slice_index_or needed.old k false ≡ true → slice_index_or needed.new k false ≡ true }
-    ensures later { (k : ℕ) → below ≤ k → slice_index_or needed.new k false ≡ slice_index_or needed.old k false }
+    ensures kept { (k : ℕ) → slice_index_or needed.old k false ≡ true
+        → slice_index_or needed.new k false ≡ true }
+    ensures later { (k : ℕ) → below ≤ k
+        → slice_index_or needed.new k false ≡ slice_index_or needed.old k false }
 {
     let at = number as usize;
     if at < base {
@@ -29,8 +31,10 @@ fn want(needed: &mut [bool], base: usize, below: usize, number: u32)
 fn want_named(needed: &mut [bool], base: usize, below: usize, chain: &Chain)
     requires { below ≤ length needed.old }
     ensures wanted { All (IsWanted base below needed.new) (numbers chain.now) }
-    ensures kept { (k : ℕ) → slice_index_or needed.old k false ≡ true → slice_index_or needed.new k false ≡ true }
-    ensures later { (k : ℕ) → below ≤ k → slice_index_or needed.new k false ≡ slice_index_or needed.old k false }
+    ensures kept { (k : ℕ) → slice_index_or needed.old k false ≡ true
+        → slice_index_or needed.new k false ≡ true }
+    ensures later { (k : ℕ) → below ≤ k
+        → slice_index_or needed.new k false ≡ slice_index_or needed.old k false }
 {
     want(needed, base, below, chain.first);
     for step in chain.steps.items() {
