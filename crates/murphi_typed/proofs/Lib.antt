@@ -10,3 +10,4 @@ pub mod BodyLemmas
 pub mod RoutineLemmas
 pub mod ListedLemmas
 pub mod StepLemmas
+pub mod MovedEquations

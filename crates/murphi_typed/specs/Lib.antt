@@ -9,6 +9,7 @@ pub mod Expressions
 pub mod Execution
 pub mod Steps
 pub mod Prefix
+pub mod PrefixLists
 pub mod WellTyped
 pub mod Keeping
 pub mod Worked

@@ -2,6 +2,7 @@
 use Rattle.std.specs.Prelude.{ℕ, suc, ◌+◌, max, Bool, true, false, nat_eq, List, [], ◌∷◌, reverse, length, Option, if◌then◌else◌, slice_get, unwrap_or}
 use Rattle.std.specs.List.{count_by}
 use Rattle.std.specs.Option.{option_map_or}
+use Rattle.murphi_ast.specs.declared.expr.ChainOp.{ChainOp}
 use Rattle.murphi_ast.specs.declared.expr.ChainOp.TheVariants as op
 use Rattle.murphi_typed.specs.declared.types.Simple.{Simple}
 use Rattle.murphi_typed.specs.declared.types.Simple.TheVariants as simple
@@ -136,6 +137,18 @@ depths_in (r ∷ earlier) k formals = if nat_eq k (length earlier) then stmt_dep
 abbrev pub routine_depths : List Routine → Depths
 routine_depths routines = depths_in (reverse routines)
 
+-- the parts of `&` share what is moved, those of `|` do not; arithmetic moves nothing
+abbrev pub joined_up : ChainOp → ℕ → ℕ → ℕ
+joined_up op.And before operand = max before operand
+joined_up op.Or before operand = before + operand
+joined_up _ before operand = 0
+
+-- where the whole is to be false it is the other way round
+abbrev pub joined_down : ChainOp → ℕ → ℕ → ℕ
+joined_down op.And before operand = before + operand
+joined_down op.Or before operand = max before operand
+joined_down _ before operand = 0
+
 unfoldable mutual
   -- how many `forall`s over nodes can be moved to the front of an expression that is to be true
   pub up : Expr → ℕ
@@ -143,8 +156,7 @@ unfoldable mutual
   up (ImpliesForm left right) = down left + up right
   up (NotForm body) = down body
   up (ChoiceForm test then' else') = max (down test + up then') (up test + up else')
-  up (QuantifiedForm true over body) = level over (up body)
-  up (QuantifiedForm false over body) = 0
+  up (QuantifiedForm all over body) = if all then level over (up body) else 0
   up _ = 0
 
   -- the same of one that is to be false: `exists` is moved then
@@ -153,22 +165,17 @@ unfoldable mutual
   down (ImpliesForm left right) = max (up left) (down right)
   down (NotForm body) = up body
   down (ChoiceForm test then' else') = max (down test + down then') (up test + down else')
-  down (QuantifiedForm true over body) = 0
-  down (QuantifiedForm false over body) = level over (down body)
+  down (QuantifiedForm all over body) = if all then 0 else level over (down body)
   down _ = 0
 
-  -- the parts of `&` share what is moved, those of `|` do not
+  -- of a chain, given what is moved of the operands before the row
   pub chain_up : {n : _} → ℕ → Row_of-Link n → ℕ
   chain_up before end_of-Link = before
-  chain_up before (more_of-Link op.And operand rest) = chain_up (max before (up operand)) rest
-  chain_up before (more_of-Link op.Or operand rest) = chain_up (before + up operand) rest
-  chain_up before (more_of-Link _ operand rest) = chain_up 0 rest
+  chain_up before (more_of-Link op operand rest) = chain_up (joined_up op before (up operand)) rest
 
   pub chain_down : {n : _} → ℕ → Row_of-Link n → ℕ
   chain_down before end_of-Link = before
-  chain_down before (more_of-Link op.And operand rest) = chain_down (before + down operand) rest
-  chain_down before (more_of-Link op.Or operand rest) = chain_down (max before (down operand)) rest
-  chain_down before (more_of-Link _ operand rest) = chain_down 0 rest
+  chain_down before (more_of-Link op operand rest) = chain_down (joined_down op before (down operand)) rest
 
 -- how many parameters are nodes
 abbrev pub node_parameters : List Parameter → ℕ
