@@ -1,31 +1,26 @@
 -- What a place is, and that writing there keeps every cell within its type.
-use Rattle.std.proofs.Common.{◌≡◌, ℕ, zero, suc, Bool, true, false, not, ◌&&◌, List, [], ◌∷◌, ◌++◌, Option, None, Some, refl, sym, ap, ◌∙◌, subst, append_assoc}
-use Rattle.std.specs.Prelude.{nat_eq, nat_lt, if◌then◌else◌, slice_get, int_le}
-use Rattle.std.specs.Option.{option_map_or}
+use Rattle.std.proofs.Common.{◌≡◌, ℕ, Bool, true, false, List, [], ◌∷◌, ◌++◌, Option, None, Some, refl, sym, ap, ◌∙◌, subst, append_assoc}
+use Rattle.std.specs.Prelude.{if◌then◌else◌}
 use Rattle.std.specs.Str.{bytes_eq}
-use Rattle.std.proofs.lemmas.Bool.{and_parts}
 use Rattle.term_core.specs.declared.value.Value.{Value}
 use Rattle.term_core.specs.declared.value.Value.TheVariants as value
 use Rattle.term_core.specs.Values.{same_value}
 use Rattle.murphi_ast.specs.declared.token.Span.{Span}
 use Rattle.murphi_typed.specs.declared.types.Simple.{Simple}
-use Rattle.murphi_typed.specs.declared.types.Simple.TheVariants as simple
 use Rattle.murphi_typed.specs.declared.types.AnyType as t
 use Rattle.murphi_typed.specs.declared.types.AnyType.{AnyType, Row_of-Field, end_of-Field, more_of-Field}
-use Rattle.murphi_typed.specs.declared.types.Kind.{Kind}
 use Rattle.murphi_typed.specs.declared.expr.Root.{Root}
 use Rattle.murphi_typed.specs.declared.expr.Designator as d
 use Rattle.murphi_typed.specs.declared.expr.Designator.{Designator}
 use Rattle.murphi_typed.specs.Forms.{ArrayForm}
-use Rattle.murphi_typed.specs.Values.{may_hold, cleared_value}
-use Rattle.murphi_typed.specs.Families.{Path, Name, leaf_at, row_leaf}
-use Rattle.murphi_typed.specs.Store.{Owner, same_owner, Place, Contents, Cells, contents_at, written, renewed, beyond, only}
+use Rattle.murphi_typed.specs.Values.{may_hold}
+use Rattle.murphi_typed.specs.Families.{Path, leaf_at}
+use Rattle.murphi_typed.specs.Store.{same_owner, Place, Contents, Cells, contents_at, written, renewed, beyond, only}
 use Rattle.murphi_typed.specs.Outcome.{Outcome, Got, Fault, given, or_fault}
 use Rattle.murphi_typed.specs.Expressions.{Scene, Calls, root_place, row_path, under, value_of, place_of, indices_of}
-use Rattle.murphi_typed.specs.Execution.{cleared}
-use Rattle.murphi_typed.specs.WellTyped.{Scope, root_type, type_of, place_type, selected_type, simple_part, is_cell_of, same_simple, is_simple_type, is_type, are_fields, row_field}
+use Rattle.murphi_typed.specs.WellTyped.{Scope, root_type, type_of, place_type, selected_type, is_cell_of}
 use Rattle.murphi_typed.specs.Keeping.{Declared, AreKept}
-use Rattle.murphi_typed.proofs.TestLemmas.{owners_true, names_true, values_true, simples_true, beyond_some}
+use Rattle.murphi_typed.proofs.TestLemmas.{owners_true, names_true, simples_true, beyond_some}
 use Rattle.murphi_typed.proofs.LeafLemmas.{some_same, not_some, selected_leaf, selected_root}
 
 -- a fact of what is got, if anything is

@@ -1,5 +1,5 @@
 -- What each form of expression moves to the front, in terms of the parts that code reads.
-use Rattle.std.proofs.Common.{◌≡◌, ℕ, ◌+◌, max, Bool, List, [], ◌∷◌, refl, ap, ◌∙◌}
+use Rattle.std.proofs.Common.{◌≡◌, ℕ, ◌+◌, max, Bool, List, refl, ap, ◌∙◌}
 use Rattle.std.specs.Prelude.{if◌then◌else◌}
 use denote.Hole.Carrier.{hidden}
 use Rattle.term_core.specs.declared.value.Value.{Value}

@@ -1,11 +1,10 @@
 -- The routines of a text keep every cell within its type: a routine calls only those before it.
-use Rattle.std.proofs.Common.{◌≡◌, ℕ, zero, suc, ◌<◌, Bool, true, false, not, ◌&&◌, List, [], ◌∷◌, ◌++◌, reverse, length, Option, None, Some, refl, sym, ap, ◌∙◌, subst, arith, append_assoc, append-nil}
+use Rattle.std.proofs.Common.{◌≡◌, ℕ, zero, suc, Bool, true, false, ◌&&◌, List, [], ◌∷◌, ◌++◌, reverse, length, Option, None, Some, refl, sym, ap, ◌∙◌, subst, arith, append_assoc, append-nil}
 use Rattle.std.specs.Prelude.{nat_eq, if◌then◌else◌, slice_get}
 use Rattle.std.specs.List.{list_all}
 use Rattle.std.specs.Option.{option_map_or}
 use Rattle.std.proofs.lemmas.Bool.{and_parts, eqb-true, eqb-false}
 use Rattle.std.proofs.lemmas.List.{reverse-append, reverse-reverse, length-reverse}
-use Rattle.term_core.specs.declared.value.Value.{Value}
 use Rattle.murphi_ast.specs.declared.token.Span.{Span}
 use Rattle.murphi_typed.specs.declared.types.Simple.{Simple}
 use Rattle.murphi_typed.specs.declared.protocol.Formal.{Formal as DeclaredFormal}
@@ -13,9 +12,9 @@ use Rattle.murphi_typed.specs.declared.protocol.Routine.{Routine}
 use Rattle.murphi_typed.specs.declared.protocol.Typed.{Typed}
 use Rattle.murphi_typed.specs.Values.{is_value}
 use Rattle.murphi_typed.specs.Store.{Cells}
-use Rattle.murphi_typed.specs.Outcome.{Outcome, Got, Fault, given}
-use Rattle.murphi_typed.specs.Expressions.{Given, Scene, Left, Calls}
-use Rattle.murphi_typed.specs.Execution.{Ending, Next, Returned, cells_after, run, formals_fit, entered, called_scene, ended, call_of, calls_of, routine_calls}
+use Rattle.murphi_typed.specs.Outcome.{Got, Fault, given}
+use Rattle.murphi_typed.specs.Expressions.{Given, Scene, Calls}
+use Rattle.murphi_typed.specs.Execution.{Ending, Next, Returned, run, formals_fit, entered, called_scene, ended, call_of, calls_of, routine_calls}
 use Rattle.murphi_typed.specs.WellTyped.{is_type, is_simple_type, formal_allowed, are_variables, stmt_fits, routine_scope, routine_fits, routines_fit}
 use Rattle.murphi_typed.specs.Keeping.{Declared, AreKept}
 use Rattle.murphi_typed.proofs.LeafLemmas.{some_same, not_some}

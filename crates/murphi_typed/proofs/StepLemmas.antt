@@ -1,35 +1,30 @@
 -- Starts and steps keep the cells and what each may hold.
-use Rattle.std.proofs.Common.{◌≡◌, ℕ, zero, suc, ◌+◌, ◌<◌, Bool, true, false, not, ◌&&◌, List, [], ◌∷◌, ◌++◌, map, length, Option, None, Some, refl, sym, ap, ◌∙◌, subst, arith}
-use Rattle.std.specs.Prelude.{nat_eq, nat_lt, if◌then◌else◌, slice_get, IsTrue, option_map}
+use Rattle.std.proofs.Common.{◌≡◌, ℕ, zero, suc, ◌+◌, ◌<◌, Bool, true, false, ◌&&◌, List, [], ◌∷◌, Option, None, Some, refl, sym, ap, ◌∙◌, subst, arith}
+use Rattle.std.specs.Prelude.{nat_eq, if◌then◌else◌, slice_get, IsTrue, option_map}
 use Rattle.std.specs.List.{flat_map, list_all}
 use Rattle.std.specs.Str.{bytes_eq}
 use Rattle.std.proofs.lemmas.Bool.{and_parts, eqb-true, ltb-true}
 use Rattle.std.proofs.lemmas.Option.{slice_get-map}
 use Rattle.std.proofs.lemmas.List.{length-map}
 use Rattle.term_core.specs.declared.value.Value.{Value}
-use Rattle.term_core.specs.declared.value.Value.TheVariants as value
-use Rattle.term_core.specs.Values.{truth, same_value}
-use Rattle.murphi_typed.specs.declared.types.Simple.{Simple}
+use Rattle.term_core.specs.Values.{same_value}
 use Rattle.murphi_typed.specs.declared.types.AnyType.{AnyType}
 use Rattle.murphi_typed.specs.declared.types.Kind.{Kind}
-use Rattle.murphi_typed.specs.declared.expr.Root.{Root}
 use Rattle.murphi_typed.specs.declared.expr.Root.TheVariants as root
 use Rattle.murphi_typed.specs.declared.stmt.Stmt.{Stmt}
 use Rattle.murphi_typed.specs.declared.protocol.Parameter.{Parameter}
 use Rattle.murphi_typed.specs.declared.protocol.Variable.{Variable}
-use Rattle.murphi_typed.specs.declared.protocol.Rule.{Rule}
-use Rattle.murphi_typed.specs.declared.protocol.Start.{Start}
 use Rattle.murphi_typed.specs.declared.protocol.Typed.{Typed}
 use Rattle.murphi_typed.specs.Values.{may_hold}
-use Rattle.murphi_typed.specs.Families.{Path, Way, ways, path_of, axes_of, choices, Cell, cells_on, cells_from, cells, leaf_at}
-use Rattle.murphi_typed.specs.Store.{Owner, Global, Local, Formal, same_owner, Cells, blank}
-use Rattle.murphi_typed.specs.Outcome.{Outcome, Got, Fault, given}
-use Rattle.murphi_typed.specs.Expressions.{Scene, whole}
-use Rattle.murphi_typed.specs.Execution.{Ending, cells_after, run}
-use Rattle.murphi_typed.specs.Steps.{State, same_list, is_cell, listed, cells_of, value_in, state_of, outermost, calls_in, state_after, started, guarded, fired, Starts, Steps, IsRun, IsReached}
-use Rattle.murphi_typed.specs.WellTyped.{Scope, is_type, variable_type, formal_type, are_variables, are_parameter_types, top_scope, stmt_fits, guard_fits, rule_fits, start_fits, routines_fit, formula_fits, is_well_typed}
+use Rattle.murphi_typed.specs.Families.{ways, path_of, axes_of, choices, Cell, cells_on, cells_from, cells, leaf_at}
+use Rattle.murphi_typed.specs.Store.{Global, Local, Formal, same_owner, Cells, blank}
+use Rattle.murphi_typed.specs.Outcome.{Got, given}
+use Rattle.murphi_typed.specs.Expressions.{whole}
+use Rattle.murphi_typed.specs.Execution.{cells_after, run}
+use Rattle.murphi_typed.specs.Steps.{State, same_list, is_cell, listed, cells_of, value_in, state_of, outermost, calls_in, state_after, guarded, Starts, Steps, IsRun, IsReached}
+use Rattle.murphi_typed.specs.WellTyped.{is_type, variable_type, are_variables, are_parameter_types, top_scope, stmt_fits, guard_fits, rule_fits, start_fits, routines_fit, formula_fits, is_well_typed}
 use Rattle.murphi_typed.specs.Keeping.{Declared, AreKept, IsState}
-use Rattle.murphi_typed.proofs.TestLemmas.{owners_true, names_true, values_true, lists_true}
+use Rattle.murphi_typed.proofs.TestLemmas.{owners_true, names_true, lists_true}
 use Rattle.murphi_typed.proofs.LeafLemmas.{some_same, not_some}
 use Rattle.murphi_typed.proofs.KeepLemmas.{IfGot, if_given, if_after, SceneFits}
 use Rattle.murphi_typed.proofs.InnerLemmas.{IsShallow, HasGlobals}

@@ -41,13 +41,16 @@ abbrev pub per_node : AnyType → AnyType
 per_node type = ArrayForm simple.Node type
 
 abbrev pub protocol : List Kind → List Variable → List Start → List Rule → Typed
-protocol kinds globals starts rules = record { names = []; kinds = kinds; node = None; globals = globals; routines = []; starts = starts; rules = rules; invariants = [] }
+protocol kinds globals starts rules =
+    record { names = []; kinds = kinds; node = None; globals = globals; routines = []; starts = starts; rules =
+    rules; invariants = [] }
 
 abbrev pub start : List Parameter → Stmt → Start
 start params body = record { title = codes "Init"; params = params; locals = []; body = body; prefix = 0 }
 
 abbrev pub rule : List Parameter → Option Guard → Stmt → Rule
-rule params guard body = record { title = codes "R"; params = params; guard = guard; locals = []; body = body; prefix = 0 }
+rule params guard body =
+    record { title = codes "R"; params = params; guard = guard; locals = []; body = body; prefix = 0 }
 
 abbrev pub guard : Expr → Option Guard
 guard test = Some (record { test = test; at = there })
@@ -66,17 +69,29 @@ abbrev pub undef_start : Start
 undef_start = start [] (one (assign 2 simple.Truth (x.Known yes_)))
 
 abbrev pub undef : Typed
-undef = protocol [] (variable (codes "a") boolean ∷ variable (codes "b") boolean ∷ variable (codes "c") boolean ∷ []) (undef_start ∷ []) (undef_copy ∷ undef_read ∷ [])
+undef =
+    protocol [] (variable (codes "a") boolean ∷ variable (codes "b") boolean ∷ variable (codes "c") boolean ∷ [])
+    (undef_start ∷ []) (undef_copy ∷ undef_read ∷ [])
 
 -- the protocol alias.m
 abbrev pub alias_start : Start
-alias_start = start [] (one (s.For' simple.Node (tt ∷ tt ∷ []) (more_of-Stmt (to_item 0 simple.Node (x.Bound 0) simple.Node (x.Bound 0)) (more_of-Stmt (to_item 1 simple.Node (x.Bound 0) simple.Truth (x.Known no_)) end_of-Stmt)) here))
+alias_start =
+    start []
+    (one
+    (s.For' simple.Node (tt ∷ tt ∷ []) (more_of-Stmt (to_item 0 simple.Node (x.Bound 0) simple.Node (x.Bound 0))
+    (more_of-Stmt (to_item 1 simple.Node (x.Bound 0) simple.Truth (x.Known no_)) end_of-Stmt)) here))
 
 abbrev pub alias_link : Rule
-alias_link = rule (node_parameter (codes "p") ∷ node_parameter (codes "q") ∷ []) (guard (CompareForm compare.Equal (x.Read (item 1 simple.Node (x.Bound 0))) (x.Known no_))) (two (to_item 0 simple.Node (x.Bound 0) simple.Node (x.Bound 1)) (to_item 1 simple.Node (x.Read (item 0 simple.Node (x.Bound 0))) simple.Truth (x.Known yes_)))
+alias_link =
+    rule (node_parameter (codes "p") ∷ node_parameter (codes "q") ∷ [])
+    (guard (CompareForm compare.Equal (x.Read (item 1 simple.Node (x.Bound 0))) (x.Known no_)))
+    (two (to_item 0 simple.Node (x.Bound 0) simple.Node (x.Bound 1))
+    (to_item 1 simple.Node (x.Read (item 0 simple.Node (x.Bound 0))) simple.Truth (x.Known yes_)))
 
 abbrev pub alias : Typed
-alias = protocol [] (variable (codes "A") (per_node (t.Simple simple.Node)) ∷ variable (codes "B") (per_node boolean) ∷ []) (alias_start ∷ []) (alias_link ∷ [])
+alias =
+    protocol [] (variable (codes "A") (per_node (t.Simple simple.Node)) ∷ variable (codes "B") (per_node boolean)
+    ∷ []) (alias_start ∷ []) (alias_link ∷ [])
 
 abbrev pub bits : Bool → Bool → Bool → List Value
 bits a b c = value.Truth a ∷ value.Truth b ∷ value.Truth c ∷ []
@@ -88,40 +103,64 @@ abbrev pub StepsAreAsWorked : Type 0
 StepsAreAsWorked =
   -- undef.m: the start leaves a and b undefined; "Copy" keeps b undefined; "Read" faults at its assignment
   (started 1 undef undef_start [] ≡ Got (value.Undefined ∷ value.Undefined ∷ yes_ ∷ []))
-  × (fired 1 undef undef_copy [] (value.Undefined ∷ value.Undefined ∷ yes_ ∷ []) ≡ Got (Some (value.Undefined ∷ value.Undefined ∷ yes_ ∷ [])))
+  × (fired 1 undef undef_copy [] (value.Undefined ∷ value.Undefined ∷ yes_ ∷ []) ≡ Got
+      (Some (value.Undefined ∷ value.Undefined ∷ yes_ ∷ [])))
   × (fired 1 undef undef_read [] (value.Undefined ∷ value.Undefined ∷ yes_ ∷ []) ≡ Fault here)
   -- a false guard; a guard that reads an undefined cell faults at its first token
   × (fired 1 undef undef_read [] (value.Undefined ∷ value.Undefined ∷ no_ ∷ []) ≡ Got None)
   × (fired 1 undef undef_read [] (value.Undefined ∷ value.Undefined ∷ value.Undefined ∷ []) ≡ Fault there)
   -- a rule without a guard
-  × (fired 1 undef (rule [] None (one (assign 0 simple.Truth (x.Known no_)))) [] (value.Undefined ∷ value.Undefined ∷ value.Undefined ∷ []) ≡ Got (Some (no_ ∷ value.Undefined ∷ value.Undefined ∷ [])))
+  × (fired 1 undef (rule [] None (one (assign 0 simple.Truth (x.Known no_)))) []
+      (value.Undefined ∷ value.Undefined ∷ value.Undefined ∷ []) ≡ Got
+      (Some (no_ ∷ value.Undefined ∷ value.Undefined ∷ [])))
   -- alias.m with three nodes: "Init", "Link" 1 2, and then "Link" 2 1 is not enabled
   × (started 3 alias alias_start [] ≡ Got (pointers 1 2 3 (bits false false false)))
-  × (fired 3 alias alias_link (node 1 ∷ node 2 ∷ []) (pointers 1 2 3 (bits false false false)) ≡ Got (Some (pointers 2 2 3 (bits false true false))))
+  × (fired 3 alias alias_link (node 1 ∷ node 2 ∷ []) (pointers 1 2 3 (bits false false false)) ≡ Got
+      (Some (pointers 2 2 3 (bits false true false))))
   × (fired 3 alias alias_link (node 2 ∷ node 1 ∷ []) (pointers 2 2 3 (bits false true false)) ≡ Got None)
 
 -- the globals of german.m
 abbrev pub german_kinds : List Kind
-german_kinds = kind.Scalarset (Some (codes "DATA")) 2 ∷ kind.Listed (codes "I" ∷ codes "S" ∷ codes "E" ∷ []) ∷ kind.Listed (codes "Empty" ∷ codes "ReqS" ∷ codes "ReqE" ∷ codes "Inv" ∷ codes "InvAck" ∷ codes "GntS" ∷ codes "GntE" ∷ []) ∷ []
+german_kinds =
+    kind.Scalarset (Some (codes "DATA")) 2 ∷ kind.Listed (codes "I" ∷ codes "S" ∷ codes "E" ∷ []) ∷ kind.Listed
+    (codes "Empty" ∷ codes "ReqS" ∷ codes "ReqE" ∷ codes "Inv" ∷ codes "InvAck" ∷ codes "GntS" ∷ codes "GntE" ∷ [])
+    ∷ []
 
 abbrev pub data_type : Simple
 data_type = simple.Scalarset 0 2
 
 abbrev pub cache_type : AnyType
-cache_type = t.Record' (tt ∷ tt ∷ []) (more_of-Field (codes "State") (t.Simple (simple.Listed 1 3)) (more_of-Field (codes "Data") (t.Simple data_type) end_of-Field))
+cache_type =
+    t.Record' (tt ∷ tt ∷ [])
+    (more_of-Field (codes "State") (t.Simple (simple.Listed 1 3))
+    (more_of-Field (codes "Data") (t.Simple data_type) end_of-Field))
 
 abbrev pub message_type : AnyType
-message_type = t.Record' (tt ∷ tt ∷ []) (more_of-Field (codes "Cmd") (t.Simple (simple.Listed 2 7)) (more_of-Field (codes "Data") (t.Simple data_type) end_of-Field))
+message_type =
+    t.Record' (tt ∷ tt ∷ [])
+    (more_of-Field (codes "Cmd") (t.Simple (simple.Listed 2 7))
+    (more_of-Field (codes "Data") (t.Simple data_type) end_of-Field))
 
 abbrev pub german_globals : List Variable
-german_globals = variable (codes "Cache") (per_node cache_type) ∷ variable (codes "Chan1") (per_node message_type) ∷ variable (codes "Chan2") (per_node message_type) ∷ variable (codes "Chan3") (per_node message_type) ∷ variable (codes "InvSet") (per_node boolean) ∷ variable (codes "ShrSet") (per_node boolean) ∷ variable (codes "ExGntd") boolean ∷ variable (codes "CurCmd") (t.Simple (simple.Listed 2 7)) ∷ variable (codes "CurPtr") (t.Simple simple.Node) ∷ variable (codes "MemData") (t.Simple data_type) ∷ variable (codes "AuxData") (t.Simple data_type) ∷ []
+german_globals =
+    variable (codes "Cache") (per_node cache_type) ∷ variable (codes "Chan1") (per_node message_type) ∷ variable
+    (codes "Chan2") (per_node message_type) ∷ variable (codes "Chan3") (per_node message_type) ∷ variable
+    (codes "InvSet") (per_node boolean) ∷ variable (codes "ShrSet") (per_node boolean) ∷ variable (codes "ExGntd")
+    boolean ∷ variable (codes "CurCmd") (t.Simple (simple.Listed 2 7)) ∷ variable (codes "CurPtr")
+    (t.Simple simple.Node) ∷ variable (codes "MemData") (t.Simple data_type) ∷ variable (codes "AuxData")
+    (t.Simple data_type) ∷ []
 
 abbrev pub german : Typed
 german = protocol german_kinds german_globals [] []
 
 -- `a : array [0..1] of record f, g : boolean end`
 abbrev pub two_fields : Typed
-two_fields = protocol [] (variable (codes "a") (ArrayForm (simple.Range (pos 0) (pos 1)) (t.Record' (tt ∷ tt ∷ []) (more_of-Field (codes "f") boolean (more_of-Field (codes "g") boolean end_of-Field)))) ∷ []) [] []
+two_fields =
+    protocol []
+    (variable (codes "a")
+    (ArrayForm (simple.Range (pos 0) (pos 1))
+    (t.Record' (tt ∷ tt ∷ []) (more_of-Field (codes "f") boolean (more_of-Field (codes "g") boolean end_of-Field))))
+    ∷ []) [] []
 
 -- a cell by its global, its field names and its indices
 pub record Key : Type 0 where
@@ -144,9 +183,11 @@ CellsAreAsWorked =
   (length (cells 2 german) ≡ 25)
   × (length (cells 3 german) ≡ 35)
   -- the first five are Cache[1].State, Cache[2].State, Cache[1].Data, Cache[2].Data and Chan1[1].Cmd
-  × (take 5 (keys_of 2 german) ≡ key 0 (codes "State") 1 ∷ key 0 (codes "State") 2 ∷ key 0 (codes "Data") 1 ∷ key 0 (codes "Data") 2 ∷ key 1 (codes "Cmd") 1 ∷ [])
+  × (take 5 (keys_of 2 german) ≡ key 0 (codes "State") 1 ∷ key 0 (codes "State") 2 ∷ key 0 (codes "Data") 1 ∷ key 0
+      (codes "Data") 2 ∷ key 1 (codes "Cmd") 1 ∷ [])
   -- fields before indices
-  × (keys_of 1 two_fields ≡ item_key (codes "f") 0 ∷ item_key (codes "f") 1 ∷ item_key (codes "g") 0 ∷ item_key (codes "g") 1 ∷ [])
+  × (keys_of 1 two_fields ≡ item_key (codes "f") 0 ∷ item_key (codes "f") 1 ∷ item_key (codes "g") 0 ∷ item_key
+      (codes "g") 1 ∷ [])
   -- an enum name
   × (value_text german_kinds (value.Member 2 3) ≡ codes "Inv")
   -- enum names that could be read as another value
@@ -206,8 +247,10 @@ PrefixesAreAsWorked =
   × (formula_prefix [] [] (chain (every plain) op.Or (every plain)) ≡ 2)
   × (formula_prefix [] [] nested ≡ 2)
   -- a call is opened: the argument counts where it is written and wherever the formal is used
-  × (formula_prefix (routine (by_value simple.Truth ∷ []) (Some simple.Truth) [] spreading ∷ []) [] (called_with plain) ≡ 1)
-  × (formula_prefix (routine (by_value simple.Truth ∷ []) (Some simple.Truth) [] spreading ∷ []) [] (called_with (every plain)) ≡ 2)
+  × (formula_prefix (routine (by_value simple.Truth ∷ []) (Some simple.Truth) [] spreading ∷ []) []
+      (called_with plain) ≡ 1)
+  × (formula_prefix (routine (by_value simple.Truth ∷ []) (Some simple.Truth) [] spreading ∷ []) []
+      (called_with (every plain)) ≡ 2)
   -- rules: alias.m's "Link" has 2, its start 1
   × (rule_prefix [] alias_link.params alias_link.guard alias_link.body ≡ 2)
   × (rule_prefix [] [] None alias_start.body ≡ 1)
