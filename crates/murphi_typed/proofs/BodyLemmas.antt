@@ -89,6 +89,7 @@ module _ (types : Declared) (calls : Calls) where
 
   mutual
     unfolding run stmt_fits
+
     pub run_kept : (scope : Scope) (scene : Scene) (cells : Cells) (body : Stmt) → SceneFits types scope scene → IsShallow types scene.depth → HasGlobals types scope.globals → CallsKeep scope.globals scope.routines calls → AreKept scene.nodes types cells → stmt_fits scope body ≡ true → IfGot (EndingKept scene.nodes types) (run calls scene cells body)
     run_kept scope scene cells (s.Block' _ body) fits shallow has keeps kept e = all_kept scope scene cells body fits shallow has keeps kept e
     run_kept scope scene cells (s.Assign to into body) fits shallow has keeps kept e =

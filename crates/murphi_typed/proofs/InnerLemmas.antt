@@ -130,6 +130,7 @@ entered_kept N depth formals locals types gs cells fit tested kept (Formal of k)
     given_one : (f : DeclaredFormal) (g : Given) → f.by_place ≡ false → f.of ≡ T → slice_get gs k ≡ Some g → FormalGiven N types f g → formal_fits N f g ≡ true → may_hold N leaf (filled (slice_get gs k) path at) ≡ true
     given_one f (Filled contents) by of' there has test = ap (λ o. may_hold N leaf (filled o path at)) there ∙ filled_holds N types f contents has test path leaf (ap (λ U. leaf_at U path) of' ∙ leads) at
     given_one f (Standing p) by of' there has test = let wrong : true ≡ false = sym (has.0) ∙ by in cc
+
     go : (b : Bool) → (if b then formal_type false (slice_get formals k) else types (Formal of k)) ≡ Some T → may_hold N leaf ((if b then filled (slice_get gs k) else cells (Formal of k)) path at) ≡ true
     go false e = kept (Formal of k) T e path leaf leads at
     go true e =

@@ -67,6 +67,7 @@ written_kept N types cells p U new kept has holds owner type declared path leaf 
   where
     old : may_hold N leaf (cells owner path at) ≡ true
     old = kept owner type declared path leaf leads at
+
     go : (b : Bool) → same_owner owner p.owner ≡ b → (o : Option Path) → beyond bytes_eq p.path path ≡ o → (q : Option (List Value)) → may_hold N leaf (if b then renewed new (cells owner path at) o q else cells owner path at) ≡ true
     go false was o beyond_is q = old
     go true was None beyond_is q = old

@@ -84,6 +84,7 @@ selected_root scope (Some T) U row e = (T, refl)
 
 mutual
   unfolding leaf_at has_parts
+
   parts_leaf : (U V : AnyType) → has_parts U V ≡ true → (path : Path) (leaf : Simple) → leaf_at U path ≡ Some leaf → leaf_at V path ≡ Some leaf
   parts_leaf (t.Simple a) (t.Simple b) same [] leaf e = ap Some (sym (simples_true a b same)) ∙ e
   parts_leaf (t.Simple a) (t.Simple b) same (name ∷ path) leaf e = cc

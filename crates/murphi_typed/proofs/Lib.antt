@@ -11,3 +11,4 @@ pub mod RoutineLemmas
 pub mod ListedLemmas
 pub mod StepLemmas
 pub mod MovedEquations
+pub mod StateLemmas

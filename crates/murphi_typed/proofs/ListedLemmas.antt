@@ -74,6 +74,7 @@ row_path_leaf fields (name ∷ path) = row_leaf fields name path
 
 mutual
   unfolding ways leaf_at is_type row_path_leaf
+
   pub ways_lead : (kinds : List Kind) (type : AnyType) → is_type kinds type ≡ true → Each (Leads type) (ways type)
   ways_lead kinds (t.Simple type) fine = (refl, tt)
   ways_lead kinds (t.Record' _ fields) fine = each_other (LeadsIn fields) (Leads (t.Record' _ fields)) (row_ways fields) (λ way leads. through way leads) (row_leads kinds fields fine)

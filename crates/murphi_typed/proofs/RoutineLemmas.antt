@@ -44,8 +44,10 @@ call_kept T earlier calls keeps r fine types scene at gs cells shallow has fit k
   where
     inner : Declared
     inner = inner_types (suc scene.depth) r.formals r.locals types
+
     back : (ending : Ending) → EndingKept scene.nodes inner ending → EndingKept scene.nodes types ending
     back ending after owner T' declared = after owner T' (widen scene.depth r.formals r.locals types shallow owner T' declared)
+
     body : formals_fit scene.nodes r.formals gs ≡ true → IfGot (EndingKept scene.nodes inner) (run calls (called_scene scene gs) (entered (suc scene.depth) gs cells) r.body)
     body tested =
         let (formals, rest) = and_parts (list_all (λ (f : DeclaredFormal). is_type T.kinds f.of && formal_allowed r.result f) r.formals) (option_map_or (is_simple_type T.kinds) r.result true && (are_variables T.kinds r.locals && stmt_fits (routine_scope T earlier r) r.body)) fine in
@@ -55,6 +57,7 @@ call_kept T earlier calls keeps r fine types scene at gs cells shallow has fit k
         (inner_fits types T.globals r.formals r.locals scene gs (routine_scope T earlier r) shallow has fit refl refl refl)
         (inner_shallow scene.depth r.formals r.locals types shallow) has keeps
         (entered_kept scene.nodes (suc scene.depth) r.formals r.locals types gs cells fit tested kept) fits
+
     go : (b : Bool) → formals_fit scene.nodes r.formals gs ≡ b → IfGot (LeftKept scene.nodes types) (if b then given (run calls (called_scene scene gs) (entered (suc scene.depth) gs cells) r.body) (ended r.result scene at) else Fault at)
     go true tested = if_given (EndingKept scene.nodes inner) (LeftKept scene.nodes types) (run calls (called_scene scene gs) (entered (suc scene.depth) gs cells) r.body) (ended r.result scene at) (body tested) (λ ending after. ended_kept types r.result scene at ending (back ending after))
     go false tested = tt

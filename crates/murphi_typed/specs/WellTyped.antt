@@ -390,8 +390,16 @@ are_parameter_types kinds params = list_all (λ (p : Parameter). is_simple_type 
 -- the body of a rule or of a start state, or a formula
 abbrev pub top_scope : Typed → List Variable → List Parameter → Scope
 top_scope T locals params =
-    record { kinds = T.kinds; globals = T.globals; routines = T.routines; formals = []; locals = locals; bound = map
-    (λ (p : Parameter). p.over) params; exit = AtEnd }
+    record {
+      kinds = T.kinds;
+      globals = T.globals;
+      routines = T.routines;
+      formals = [];
+      locals = locals;
+      bound = map
+          (λ (p : Parameter). p.over) params;
+      exit = AtEnd;
+    }
 
 abbrev pub exit_of : Option Simple → Exit
 exit_of None = ByReturn
@@ -400,8 +408,15 @@ exit_of (Some type) = WithValue type
 -- the body of a routine, which may call those before it
 abbrev pub routine_scope : Typed → List Routine → Routine → Scope
 routine_scope T earlier r =
-    record { kinds = T.kinds; globals = T.globals; routines = earlier; formals = r.formals; locals = r.locals;
-    bound = []; exit = exit_of r.result }
+    record {
+      kinds = T.kinds;
+      globals = T.globals;
+      routines = earlier;
+      formals = r.formals;
+      locals = r.locals;
+      bound = [];
+      exit = exit_of r.result;
+    }
 
 -- a function has no `var` formals
 abbrev pub formal_allowed : Option Simple → Formal → Bool

@@ -42,8 +42,17 @@ per_node type = ArrayForm simple.Node type
 
 abbrev pub protocol : List Kind → List Variable → List Start → List Rule → Typed
 protocol kinds globals starts rules =
-    record { names = []; kinds = kinds; node = None; globals = globals; routines = []; starts = starts; rules =
-    rules; invariants = [] }
+    record {
+      names = [];
+      kinds = kinds;
+      node = None;
+      globals = globals;
+      routines = [];
+      starts = starts;
+      rules =
+          rules;
+      invariants = [];
+    }
 
 abbrev pub start : List Parameter → Stmt → Start
 start params body = record { title = codes "Init"; params = params; locals = []; body = body; prefix = 0 }
@@ -101,23 +110,23 @@ pointers a b c rest = node a ∷ node b ∷ node c ∷ rest
 
 abbrev pub StepsAreAsWorked : Type 0
 StepsAreAsWorked =
-  -- undef.m: the start leaves a and b undefined; "Copy" keeps b undefined; "Read" faults at its assignment
-  (started 1 undef undef_start [] ≡ Got (value.Undefined ∷ value.Undefined ∷ yes_ ∷ []))
-  × (fired 1 undef undef_copy [] (value.Undefined ∷ value.Undefined ∷ yes_ ∷ []) ≡ Got
-      (Some (value.Undefined ∷ value.Undefined ∷ yes_ ∷ [])))
-  × (fired 1 undef undef_read [] (value.Undefined ∷ value.Undefined ∷ yes_ ∷ []) ≡ Fault here)
-  -- a false guard; a guard that reads an undefined cell faults at its first token
-  × (fired 1 undef undef_read [] (value.Undefined ∷ value.Undefined ∷ no_ ∷ []) ≡ Got None)
-  × (fired 1 undef undef_read [] (value.Undefined ∷ value.Undefined ∷ value.Undefined ∷ []) ≡ Fault there)
-  -- a rule without a guard
-  × (fired 1 undef (rule [] None (one (assign 0 simple.Truth (x.Known no_)))) []
-      (value.Undefined ∷ value.Undefined ∷ value.Undefined ∷ []) ≡ Got
-      (Some (no_ ∷ value.Undefined ∷ value.Undefined ∷ [])))
-  -- alias.m with three nodes: "Init", "Link" 1 2, and then "Link" 2 1 is not enabled
-  × (started 3 alias alias_start [] ≡ Got (pointers 1 2 3 (bits false false false)))
-  × (fired 3 alias alias_link (node 1 ∷ node 2 ∷ []) (pointers 1 2 3 (bits false false false)) ≡ Got
-      (Some (pointers 2 2 3 (bits false true false))))
-  × (fired 3 alias alias_link (node 2 ∷ node 1 ∷ []) (pointers 2 2 3 (bits false true false)) ≡ Got None)
+    -- undef.m: the start leaves a and b undefined; "Copy" keeps b undefined; "Read" faults at its assignment
+    (started 1 undef undef_start [] ≡ Got (value.Undefined ∷ value.Undefined ∷ yes_ ∷ []))
+    × (fired 1 undef undef_copy [] (value.Undefined ∷ value.Undefined ∷ yes_ ∷ []) ≡ Got
+    (Some (value.Undefined ∷ value.Undefined ∷ yes_ ∷ [])))
+    × (fired 1 undef undef_read [] (value.Undefined ∷ value.Undefined ∷ yes_ ∷ []) ≡ Fault here)
+    -- a false guard; a guard that reads an undefined cell faults at its first token
+    × (fired 1 undef undef_read [] (value.Undefined ∷ value.Undefined ∷ no_ ∷ []) ≡ Got None)
+    × (fired 1 undef undef_read [] (value.Undefined ∷ value.Undefined ∷ value.Undefined ∷ []) ≡ Fault there)
+    -- a rule without a guard
+    × (fired 1 undef (rule [] None (one (assign 0 simple.Truth (x.Known no_)))) []
+    (value.Undefined ∷ value.Undefined ∷ value.Undefined ∷ []) ≡ Got
+    (Some (no_ ∷ value.Undefined ∷ value.Undefined ∷ [])))
+    -- alias.m with three nodes: "Init", "Link" 1 2, and then "Link" 2 1 is not enabled
+    × (started 3 alias alias_start [] ≡ Got (pointers 1 2 3 (bits false false false)))
+    × (fired 3 alias alias_link (node 1 ∷ node 2 ∷ []) (pointers 1 2 3 (bits false false false)) ≡ Got
+    (Some (pointers 2 2 3 (bits false true false))))
+    × (fired 3 alias alias_link (node 2 ∷ node 1 ∷ []) (pointers 2 2 3 (bits false true false)) ≡ Got None)
 
 -- the globals of german.m
 abbrev pub german_kinds : List Kind
@@ -179,26 +188,26 @@ item_key field index = record { global = 0; path = field ∷ []; at = value.Numb
 
 abbrev pub CellsAreAsWorked : Type 0
 CellsAreAsWorked =
-  -- german.m: 25 cells with two nodes, 35 with three
-  (length (cells 2 german) ≡ 25)
-  × (length (cells 3 german) ≡ 35)
-  -- the first five are Cache[1].State, Cache[2].State, Cache[1].Data, Cache[2].Data and Chan1[1].Cmd
-  × (take 5 (keys_of 2 german) ≡ key 0 (codes "State") 1 ∷ key 0 (codes "State") 2 ∷ key 0 (codes "Data") 1 ∷ key 0
-      (codes "Data") 2 ∷ key 1 (codes "Cmd") 1 ∷ [])
-  -- fields before indices
-  × (keys_of 1 two_fields ≡ item_key (codes "f") 0 ∷ item_key (codes "f") 1 ∷ item_key (codes "g") 0 ∷ item_key
-      (codes "g") 1 ∷ [])
-  -- an enum name
-  × (value_text german_kinds (value.Member 2 3) ≡ codes "Inv")
-  -- enum names that could be read as another value
-  × (enum_text (codes "K1") ≡ codes "'K1")
-  × (enum_text (codes "F12") ≡ codes "'F12")
-  × (enum_text (codes "Other") ≡ codes "'Other")
-  × (enum_text (codes "undefined") ≡ codes "'undefined")
-  × (enum_text (codes "A_1") ≡ codes "'A_1")
-  × (enum_text (codes "K") ≡ codes "K")
-  × (enum_text (codes "K1a") ≡ codes "K1a")
-  × (enum_text (codes "A_") ≡ codes "A_")
+    -- german.m: 25 cells with two nodes, 35 with three
+    (length (cells 2 german) ≡ 25)
+    × (length (cells 3 german) ≡ 35)
+    -- the first five are Cache[1].State, Cache[2].State, Cache[1].Data, Cache[2].Data and Chan1[1].Cmd
+    × (take 5 (keys_of 2 german) ≡ key 0 (codes "State") 1 ∷ key 0 (codes "State") 2 ∷ key 0 (codes "Data") 1 ∷ key 0
+    (codes "Data") 2 ∷ key 1 (codes "Cmd") 1 ∷ [])
+    -- fields before indices
+    × (keys_of 1 two_fields ≡ item_key (codes "f") 0 ∷ item_key (codes "f") 1 ∷ item_key (codes "g") 0 ∷ item_key
+    (codes "g") 1 ∷ [])
+    -- an enum name
+    × (value_text german_kinds (value.Member 2 3) ≡ codes "Inv")
+    -- enum names that could be read as another value
+    × (enum_text (codes "K1") ≡ codes "'K1")
+    × (enum_text (codes "F12") ≡ codes "'F12")
+    × (enum_text (codes "Other") ≡ codes "'Other")
+    × (enum_text (codes "undefined") ≡ codes "'undefined")
+    × (enum_text (codes "A_1") ≡ codes "'A_1")
+    × (enum_text (codes "K") ≡ codes "K")
+    × (enum_text (codes "K1a") ≡ codes "K1a")
+    × (enum_text (codes "A_") ≡ codes "A_")
 
 -- a quantifier over nodes whose body compares two bound variables
 abbrev pub every : Expr → Expr
@@ -222,38 +231,38 @@ called_with body = x.Call 0 (with_one (argument.Value body)) here
 
 abbrev pub PrefixesAreAsWorked : Type 0
 PrefixesAreAsWorked =
-  -- `a & b`: the parts share what is moved; `a | b`: they do not
-  (up (chain (every plain) op.And (every plain)) ≡ 1)
-  × (up (chain (every plain) op.Or (every plain)) ≡ 2)
-  × (down (chain (some plain) op.And (some plain)) ≡ 2)
-  × (down (chain (some plain) op.Or (some plain)) ≡ 1)
-  -- `a -> b` and `!a`
-  × (up (ImpliesForm (some plain) (every plain)) ≡ 2)
-  × (up (ImpliesForm (every plain) (some plain)) ≡ 0)
-  × (down (ImpliesForm (every plain) (some plain)) ≡ 1)
-  × (up (NotForm (some plain)) ≡ 1)
-  × (up (NotForm (every plain)) ≡ 0)
-  -- `c ? a : b`
-  × (up (ChoiceForm (some plain) (every plain) plain) ≡ 2)
-  × (up (ChoiceForm (every plain) plain (every (every plain))) ≡ 3)
-  -- `forall` over nodes, `exists`, and quantifiers over another type
-  × (up (every (every plain)) ≡ 2)
-  × (up (some (every plain)) ≡ 0)
-  × (up (QuantifiedForm true simple.Truth (every plain)) ≡ 1)
-  -- anything else
-  × (up (CompareForm compare.Equal (every plain) (every plain)) ≡ 0)
-  -- the whole length: node parameters, and the greater of the nesting and of what is moved
-  × (formula_prefix [] (node_parameter (codes "i") ∷ node_parameter (codes "j") ∷ []) plain ≡ 2)
-  × (formula_prefix [] [] (chain (every plain) op.Or (every plain)) ≡ 2)
-  × (formula_prefix [] [] nested ≡ 2)
-  -- a call is opened: the argument counts where it is written and wherever the formal is used
-  × (formula_prefix (routine (by_value simple.Truth ∷ []) (Some simple.Truth) [] spreading ∷ []) []
-      (called_with plain) ≡ 1)
-  × (formula_prefix (routine (by_value simple.Truth ∷ []) (Some simple.Truth) [] spreading ∷ []) []
-      (called_with (every plain)) ≡ 2)
-  -- rules: alias.m's "Link" has 2, its start 1
-  × (rule_prefix [] alias_link.params alias_link.guard alias_link.body ≡ 2)
-  × (rule_prefix [] [] None alias_start.body ≡ 1)
+    -- `a & b`: the parts share what is moved; `a | b`: they do not
+    (up (chain (every plain) op.And (every plain)) ≡ 1)
+    × (up (chain (every plain) op.Or (every plain)) ≡ 2)
+    × (down (chain (some plain) op.And (some plain)) ≡ 2)
+    × (down (chain (some plain) op.Or (some plain)) ≡ 1)
+    -- `a -> b` and `!a`
+    × (up (ImpliesForm (some plain) (every plain)) ≡ 2)
+    × (up (ImpliesForm (every plain) (some plain)) ≡ 0)
+    × (down (ImpliesForm (every plain) (some plain)) ≡ 1)
+    × (up (NotForm (some plain)) ≡ 1)
+    × (up (NotForm (every plain)) ≡ 0)
+    -- `c ? a : b`
+    × (up (ChoiceForm (some plain) (every plain) plain) ≡ 2)
+    × (up (ChoiceForm (every plain) plain (every (every plain))) ≡ 3)
+    -- `forall` over nodes, `exists`, and quantifiers over another type
+    × (up (every (every plain)) ≡ 2)
+    × (up (some (every plain)) ≡ 0)
+    × (up (QuantifiedForm true simple.Truth (every plain)) ≡ 1)
+    -- anything else
+    × (up (CompareForm compare.Equal (every plain) (every plain)) ≡ 0)
+    -- the whole length: node parameters, and the greater of the nesting and of what is moved
+    × (formula_prefix [] (node_parameter (codes "i") ∷ node_parameter (codes "j") ∷ []) plain ≡ 2)
+    × (formula_prefix [] [] (chain (every plain) op.Or (every plain)) ≡ 2)
+    × (formula_prefix [] [] nested ≡ 2)
+    -- a call is opened: the argument counts where it is written and wherever the formal is used
+    × (formula_prefix (routine (by_value simple.Truth ∷ []) (Some simple.Truth) [] spreading ∷ []) []
+    (called_with plain) ≡ 1)
+    × (formula_prefix (routine (by_value simple.Truth ∷ []) (Some simple.Truth) [] spreading ∷ []) []
+    (called_with (every plain)) ≡ 2)
+    -- rules: alias.m's "Link" has 2, its start 1
+    × (rule_prefix [] alias_link.params alias_link.guard alias_link.body ≡ 2)
+    × (rule_prefix [] [] None alias_start.body ≡ 1)
 
 -- a rule that assigns a number to a truth value
 abbrev pub mistyped : Rule
@@ -261,7 +270,7 @@ mistyped = rule [] None (one (assign 0 simple.Truth (number (pos 1))))
 
 abbrev pub TypesAreAsWorked : Type 0
 TypesAreAsWorked =
-  (is_well_typed undef ≡ true)
-  × (is_well_typed alias ≡ true)
-  × (is_well_typed german ≡ true)
-  × (rule_fits undef mistyped ≡ false)
+    (is_well_typed undef ≡ true)
+    × (is_well_typed alias ≡ true)
+    × (is_well_typed german ≡ true)
+    × (rule_fits undef mistyped ≡ false)

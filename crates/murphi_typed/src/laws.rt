@@ -1,9 +1,11 @@
 //! What holds of the meaning of every typed protocol: laws, each on a function that does nothing.
 
-ghost use Rattle.std.specs.Prelude.{ℕ, List, IsTrue};
+ghost use Rattle.std.specs.Prelude.{◌≡◌, ℕ, List, Some, slice_get, IsTrue};
 ghost use Rattle.term_core.specs.declared.value.Value.{Value};
 ghost use Rattle.murphi_typed.specs.declared.protocol.Typed.{Typed};
-ghost use Rattle.murphi_typed.specs.Steps.{State, Starts, Steps, IsReached};
+ghost use Rattle.murphi_typed.specs.Families.{Cell, cells, path_of};
+ghost use Rattle.murphi_typed.specs.Store.{Global, Cells};
+ghost use Rattle.murphi_typed.specs.Steps.{State, cells_of, value_in, state_of, Starts, Steps, IsReached};
 ghost use Rattle.murphi_typed.specs.WellTyped.{is_well_typed};
 ghost use Rattle.murphi_typed.specs.Keeping.{IsState};
 ghost use Rattle.murphi_typed.specs.Worked.{ExpressionsAreAsWorked, QuantifiersAreAsWorked, AssignmentsAreAsWorked};
@@ -29,4 +31,10 @@ pub fn steps_keep_the_cells()
     ensures starts { (N : ℕ) (T : Typed) (k : ℕ) (p : List Value) (t : State) → IsTrue (is_well_typed T) → Starts N T k p t → IsState N T t }
     ensures steps { (N : ℕ) (T : Typed) (s : State) (k : ℕ) (p : List Value) (t : State) → IsTrue (is_well_typed T) → IsState N T s → Steps N T s k p t → IsState N T t }
     ensures reached { (N : ℕ) (T : Typed) (s : State) → IsTrue (is_well_typed T) → IsReached N T s → IsState N T s }
+{}
+
+/// The state that cells make up gives each cell of the list the value that it had: execution goes by
+/// variable, fields and indices, and states are lists in the printed order.
+pub fn states_have_the_values_of_their_cells()
+    ensures { (N : ℕ) (T : Typed) (now : Cells) (k : ℕ) (c : Cell) → slice_get (cells N T) k ≡ Some c → cells_of N T (state_of N T now) (Global c.global) (path_of c.way.steps) c.at ≡ value_in now c }
 {}
