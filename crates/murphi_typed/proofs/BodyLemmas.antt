@@ -23,9 +23,9 @@ use Rattle.murphi_typed.specs.Outcome.{Outcome, Got, Fault}
 use Rattle.murphi_typed.specs.Expressions.{Given, Scene, Left, Calls, with_bound, fitting, value_of, place_of, arguments_of}
 use Rattle.murphi_typed.specs.Execution.{Ending, Next, Returned, cells_after, then_on, turns, at_of, stored, with_value, cleared, is_among, run, run_all, run_arms, run_cases}
 use Rattle.murphi_typed.specs.WellTyped.{Scope, binding, may_write, root_of, type_of, place_type, is_of, is_cell_of, holds_values_of, are_alike, is_compound, same_type, is_type, arguments_fit, labels_fit, is_function, is_simple_type, stmt_fits, body_fits, arms_fit, cases_fit}
-use Rattle.murphi_typed.specs.Keeping.{Declared, AreKept}
+use Rattle.murphi_typed.specs.Keeping.{Declared, AreKept, HasType, SceneFits}
 use Rattle.murphi_typed.proofs.LeafLemmas.{same_leaf}
-use Rattle.murphi_typed.proofs.KeepLemmas.{IfGot, if_given, if_after, HasType, SceneFits, place_has, written_kept, contents_hold, only_holds, undefined_holds, cell_type}
+use Rattle.murphi_typed.proofs.KeepLemmas.{IfGot, if_given, if_after, place_has, written_kept, contents_hold, only_holds, undefined_holds, cell_type}
 use Rattle.murphi_typed.proofs.ClearLemmas.{cleared_holds}
 use Rattle.murphi_typed.proofs.EntryLemmas.{GivenFit, arguments_given}
 use Rattle.murphi_typed.proofs.InnerLemmas.{IsShallow, HasGlobals}

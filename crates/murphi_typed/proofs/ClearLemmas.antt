@@ -22,7 +22,7 @@ use Rattle.murphi_typed.proofs.KeepLemmas.{HoldsFor}
 mutual
   unfolding leaf_at is_type
 
-  leaf_fine : (kinds : List Kind) (U : AnyType) → is_type kinds U ≡ true → (path : Path) (leaf : Simple) → leaf_at U path ≡ Some leaf → is_simple_type kinds leaf ≡ true
+  pub leaf_fine : (kinds : List Kind) (U : AnyType) → is_type kinds U ≡ true → (path : Path) (leaf : Simple) → leaf_at U path ≡ Some leaf → is_simple_type kinds leaf ≡ true
   leaf_fine kinds (t.Simple type) fine [] leaf e = ap (is_simple_type kinds) (sym (some_same e)) ∙ fine
   leaf_fine kinds (t.Simple type) fine (name ∷ path) leaf e = absurd (not_some e)
   leaf_fine kinds (t.Record' _ fields) fine [] leaf e = absurd (not_some e)

@@ -15,9 +15,9 @@ use Rattle.murphi_typed.specs.Store.{Contents, Cells, cell_at, contents_at, only
 use Rattle.murphi_typed.specs.Outcome.{Got, given}
 use Rattle.murphi_typed.specs.Expressions.{Given, Filled, Standing, Scene, Calls, value_of, place_of, argument_of, row_arguments, arguments_of}
 use Rattle.murphi_typed.specs.WellTyped.{Scope, type_of, place_type, simple_part, is_of, is_compound, place_fits, given_value, may_write, root_of, row_fits, arguments_fit, argument_fits}
-use Rattle.murphi_typed.specs.Keeping.{Declared, AreKept}
+use Rattle.murphi_typed.specs.Keeping.{Declared, AreKept, HasType, SceneFits}
 use Rattle.murphi_typed.proofs.LeafLemmas.{some_same, not_some, same_leaf}
-use Rattle.murphi_typed.proofs.KeepLemmas.{IfGot, if_given, if_after, HasType, SceneFits, HoldsFor, place_has, contents_hold}
+use Rattle.murphi_typed.proofs.KeepLemmas.{IfGot, if_given, if_after, HoldsFor, place_has, contents_hold}
 
 -- a formal by value of simple type is given one value
 abbrev pub IsOne : AnyType → Contents → Type 0

@@ -14,9 +14,9 @@ use Rattle.murphi_typed.specs.Store.{Owner, Global, Local, Formal, Place, Conten
 use Rattle.murphi_typed.specs.Expressions.{Given, Filled, Standing, Scene, root_place, stood_for, whole}
 use Rattle.murphi_typed.specs.Execution.{formal_holds, formal_fits, formals_fit, filled, entered, called_scene}
 use Rattle.murphi_typed.specs.WellTyped.{Scope, variable_type, formal_type}
-use Rattle.murphi_typed.specs.Keeping.{Declared, AreKept}
+use Rattle.murphi_typed.specs.Keeping.{Declared, AreKept, HasType, SceneFits}
 use Rattle.murphi_typed.proofs.LeafLemmas.{some_same, not_some}
-use Rattle.murphi_typed.proofs.KeepLemmas.{HasType, SceneFits, HoldsFor, only_holds}
+use Rattle.murphi_typed.proofs.KeepLemmas.{HoldsFor, only_holds}
 use Rattle.murphi_typed.proofs.EntryLemmas.{IsOne, FormalGiven, GivenFit}
 
 -- no variables deeper than this are declared

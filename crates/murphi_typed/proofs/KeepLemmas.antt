@@ -19,7 +19,7 @@ use Rattle.murphi_typed.specs.Store.{same_owner, Place, Contents, Cells, content
 use Rattle.murphi_typed.specs.Outcome.{Outcome, Got, Fault, given, or_fault}
 use Rattle.murphi_typed.specs.Expressions.{Scene, Calls, root_place, row_path, under, value_of, place_of, indices_of}
 use Rattle.murphi_typed.specs.WellTyped.{Scope, root_type, type_of, place_type, selected_type, is_cell_of}
-use Rattle.murphi_typed.specs.Keeping.{Declared, AreKept}
+use Rattle.murphi_typed.specs.Keeping.{Declared, AreKept, HasType, SceneFits}
 use Rattle.murphi_typed.proofs.TestLemmas.{owners_true, names_true, simples_true, beyond_some}
 use Rattle.murphi_typed.proofs.LeafLemmas.{some_same, not_some, selected_leaf, selected_root}
 
@@ -38,14 +38,6 @@ if_any (Fault at) = tt
 
 pub if_after : {A B : Type 0} (P : B → Type 0) (o : Outcome A) (f : A → Outcome B) → ((a : A) → IfGot P (f a)) → IfGot P (given o f)
 if_after P o f next = if_given (λ a. Unit {0}) P o f (if_any o) (λ a nothing. next a)
-
--- the cells under a place are those of a type
-abbrev pub HasType : Declared → Place → AnyType → Type 0
-HasType types p U = (T : AnyType) × (types p.owner ≡ Some T) × ((path : Path) → leaf_at T (p.path ++ path) ≡ leaf_at U path)
-
--- each variable of a scope stands for a place of its type
-abbrev pub SceneFits : Declared → Scope → Scene → Type 0
-SceneFits types scope scene = (r : Root) (U : AnyType) → root_type scope r ≡ Some U → (p : Place) × (root_place scene r ≡ Some p) × HasType types p U
 
 -- contents that a type allows
 abbrev pub HoldsFor : ℕ → AnyType → Contents → Type 0

@@ -12,3 +12,5 @@ pub mod ListedLemmas
 pub mod StepLemmas
 pub mod MovedEquations
 pub mod StateLemmas
+pub mod ValueLemmas
+pub mod ExpressionLemmas

@@ -23,10 +23,10 @@ use Rattle.murphi_typed.specs.Expressions.{whole}
 use Rattle.murphi_typed.specs.Execution.{cells_after, run}
 use Rattle.murphi_typed.specs.Steps.{State, same_list, is_cell, listed, cells_of, value_in, state_of, outermost, calls_in, state_after, guarded, Starts, Steps, IsRun, IsReached}
 use Rattle.murphi_typed.specs.WellTyped.{is_type, variable_type, are_variables, are_parameter_types, top_scope, stmt_fits, guard_fits, rule_fits, start_fits, routines_fit, formula_fits, is_well_typed}
-use Rattle.murphi_typed.specs.Keeping.{Declared, AreKept, IsState}
+use Rattle.murphi_typed.specs.Keeping.{Declared, AreKept, IsState, SceneFits}
 use Rattle.murphi_typed.proofs.TestLemmas.{owners_true, names_true, lists_true}
 use Rattle.murphi_typed.proofs.LeafLemmas.{some_same, not_some}
-use Rattle.murphi_typed.proofs.KeepLemmas.{IfGot, if_given, if_after, SceneFits}
+use Rattle.murphi_typed.proofs.KeepLemmas.{IfGot, if_given, if_after}
 use Rattle.murphi_typed.proofs.InnerLemmas.{IsShallow, HasGlobals}
 use Rattle.murphi_typed.proofs.BodyLemmas.{EndingKept, run_kept}
 use Rattle.murphi_typed.proofs.RoutineLemmas.{routines_kept}

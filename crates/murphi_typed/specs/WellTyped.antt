@@ -213,8 +213,8 @@ operand_type _ = numbers
 
 -- the operands of a comparison: of one type, or numbers
 abbrev pub comparable : CompareOp → Option Simple → Option Simple → Bool
-comparable compare.Equal (Some left) right = is_of left right
-comparable compare.NotEqual (Some left) right = is_of left right
+comparable compare.Equal (Some left) right = option_map_or (same_simple left) right false
+comparable compare.NotEqual (Some left) right = option_map_or (same_simple left) right false
 comparable compare.Equal None right = false
 comparable compare.NotEqual None right = false
 comparable _ left right = is_of numbers left && is_of numbers right

@@ -1,13 +1,19 @@
 //! What holds of the meaning of every typed protocol: laws, each on a function that does nothing.
 
-ghost use Rattle.std.specs.Prelude.{◌≡◌, ℕ, List, Some, slice_get, IsTrue};
+ghost use Rattle.std.specs.Prelude.{◌≡◌, ℕ, true, List, Some, slice_get, IsTrue};
 ghost use Rattle.term_core.specs.declared.value.Value.{Value};
 ghost use Rattle.murphi_typed.specs.declared.protocol.Typed.{Typed};
 ghost use Rattle.murphi_typed.specs.Families.{Cell, cells, path_of};
 ghost use Rattle.murphi_typed.specs.Store.{Global, Cells};
 ghost use Rattle.murphi_typed.specs.Steps.{State, cells_of, value_in, state_of, Starts, Steps, IsReached};
-ghost use Rattle.murphi_typed.specs.WellTyped.{is_well_typed};
-ghost use Rattle.murphi_typed.specs.Keeping.{IsState};
+ghost use Rattle.murphi_typed.specs.WellTyped.{is_well_typed, Scope, type_of};
+ghost use Rattle.murphi_typed.specs.Keeping.{IsState, Declared, AreKept, SceneFits, RootsFine, BoundFits, ResultsFit};
+ghost use Rattle.murphi_ast.specs.declared.token.Span.{Span};
+ghost use Rattle.murphi_typed.specs.declared.types.Simple.{Simple};
+ghost use Rattle.murphi_typed.specs.declared.expr.Expr.{Expr};
+ghost use Rattle.murphi_typed.specs.Values.{is_value};
+ghost use Rattle.murphi_typed.specs.Outcome.{Got};
+ghost use Rattle.murphi_typed.specs.Expressions.{Scene, Calls, value_of};
 ghost use Rattle.murphi_typed.specs.Worked.{ExpressionsAreAsWorked, QuantifiersAreAsWorked, AssignmentsAreAsWorked};
 ghost use Rattle.murphi_typed.specs.WorkedBodies.{ChoicesAreAsWorked, CallsAreAsWorked};
 ghost use Rattle.murphi_typed.specs.WorkedSteps.{StepsAreAsWorked, CellsAreAsWorked, PrefixesAreAsWorked, TypesAreAsWorked};
@@ -37,4 +43,11 @@ pub fn steps_keep_the_cells()
 /// variable, fields and indices, and states are lists in the printed order.
 pub fn states_have_the_values_of_their_cells()
     ensures { (N : ℕ) (T : Typed) (now : Cells) (k : ℕ) (c : Cell) → slice_get (cells N T) k ≡ Some c → cells_of N T (state_of N T now) (Global c.global) (path_of c.way.steps) c.at ≡ value_in now c }
+{}
+
+/// Where a well-typed expression has a value, it is one of its type: in any body whose variables stand
+/// for places of their types, whose bound variables and whose functions have values of their types,
+/// and whose cells are undefined or have values of their types.
+pub fn expressions_have_values_of_their_types()
+    ensures { (types : Declared) (calls : Calls) (scope : Scope) (scene : Scene) (at : Span) (cells : Cells) → SceneFits types scope scene → RootsFine scope → BoundFits scope scene → ResultsFit scope calls → AreKept scene.nodes types cells → (e : Expr) (type : Simple) (v : Value) → type_of scope e ≡ Some type → value_of calls scene at cells e ≡ Got v → is_value scene.nodes type v ≡ true }
 {}
