@@ -1,20 +1,17 @@
 -- Well-typed expressions, one case for each form.
-use Rattle.std.proofs.Common.{◌≡◌, ℕ, Bool, true, false, not, ◌&&◌, List, [], ◌∷◌, ◌++◌, Option, None, Some, refl, sym, ap, ◌∙◌, subst, append-nil}
+use Rattle.std.proofs.Common.{◌≡◌, ℕ, Bool, true, false, ◌&&◌, [], ◌++◌, Option, None, Some, refl, sym, ap, ◌∙◌, subst, append-nil}
 use Rattle.std.specs.Prelude.{if◌then◌else◌, slice_get, option_map, option_and_then, pos, is_some}
-use Rattle.std.specs.Option.{option_map_or}
 use Rattle.std.proofs.lemmas.Bool.{and_parts}
 use Rattle.term_core.specs.declared.value.Value.{Value}
 use Rattle.term_core.specs.declared.value.Value.TheVariants as value
 use Rattle.term_core.specs.declared.value.ArithOp.TheVariants as operation
-use Rattle.term_core.specs.Values.{truth, same_value}
+use Rattle.term_core.specs.Values.{truth}
 use Rattle.murphi_ast.specs.declared.token.Span.{Span}
-use Rattle.murphi_ast.specs.declared.expr.ChainOp.{ChainOp}
 use Rattle.murphi_ast.specs.declared.expr.CompareOp.TheVariants as compare
 use Rattle.murphi_typed.specs.declared.types.Simple.{Simple}
 use Rattle.murphi_typed.specs.declared.types.Simple.TheVariants as simple
 use Rattle.murphi_typed.specs.declared.types.AnyType as t
 use Rattle.murphi_typed.specs.declared.types.AnyType.{AnyType}
-use Rattle.murphi_typed.specs.declared.expr.Root.{Root}
 use Rattle.murphi_typed.specs.declared.expr.Expr as x
 use Rattle.murphi_typed.specs.declared.expr.Expr.{Expr, end_of-Expr, more_of-Expr, Row_of-Link, end_of-Link, more_of-Link}
 use Rattle.murphi_typed.specs.declared.expr.Designator as d
@@ -22,11 +19,11 @@ use Rattle.murphi_typed.specs.declared.expr.Designator.{Designator}
 use Rattle.murphi_typed.specs.declared.protocol.Routine.{Routine}
 use Rattle.murphi_typed.specs.Forms.{NotForm, MinusForm, CompareForm, ImpliesForm, ChoiceForm, QuantifiedForm}
 use Rattle.murphi_typed.specs.Values.{is_value, may_hold}
-use Rattle.murphi_typed.specs.Families.{Path, leaf_at}
+use Rattle.murphi_typed.specs.Families.{leaf_at}
 use Rattle.murphi_typed.specs.Store.{Place, Cells, cell_at}
 use Rattle.murphi_typed.specs.Outcome.{Outcome, Got, Fault, given, or_fault}
-use Rattle.murphi_typed.specs.Expressions.{Given, Scene, Left, Calls, as_truth, calculated, joined, compared, defined, row_path, value_of, chain_value, place_of, arguments_of}
-use Rattle.murphi_typed.specs.WellTyped.{Scope, numbers, widened, same_simple, is_simple_type, is_type, root_type, simple_part, is_of, only_if, operand_type, comparable, known_type, type_of, chain_type, place_type, selected_type, arguments_fit}
+use Rattle.murphi_typed.specs.Expressions.{Scene, Left, Calls, as_truth, calculated, joined, defined, row_path, value_of, chain_value, place_of, arguments_of}
+use Rattle.murphi_typed.specs.WellTyped.{Scope, numbers, widened, is_simple_type, root_type, simple_part, is_of, only_if, operand_type, comparable, type_of, chain_type, place_type, selected_type, arguments_fit}
 use Rattle.murphi_typed.specs.Keeping.{Declared, AreKept, HasType, SceneFits, RootsFine, BoundFits, ResultsFit}
 use Rattle.murphi_typed.proofs.TestLemmas.{simples_true}
 use Rattle.murphi_typed.proofs.LeafLemmas.{some_same, not_some, selected_leaf, selected_root}
@@ -107,9 +104,11 @@ module _ (types : Declared) (calls : Calls) (scope : Scope) (scene : Scene) (at 
           left_typed : (o : Option Value) → ((v : Value) → o ≡ Some v → is_value scene.nodes u v ≡ true) → is_simple_type scope.kinds u ≡ true → Valued s (or_fault at o)
           left_typed None has simple_fine = tt
           left_typed (Some v) has simple_fine = ap (λ w. is_value scene.nodes w v) (sym wide) ∙ widened_value scene.nodes scope.kinds u v simple_fine (has v refl)
+
       fit : (r : Routine) → slice_get scope.routines k ≡ Some r → (b : Bool) → only_if b (option_map widened r.result) ≡ Some s → Valued s (given (arguments_of calls scene at cells args) (λ gs. given (calls k scene at gs cells) (λ left. or_fault at left.result)))
       fit r found false e = absurd (not_some e)
       fit r found true e = let (u, is, wide) = widened_some r.result s e in ended r u found is wide
+
       go : (o : Option Routine) → slice_get scope.routines k ≡ o → option_and_then (λ r. only_if (arguments_fit scope r.formals args) (option_map widened r.result)) o ≡ Some s → Valued s (given (arguments_of calls scene at cells args) (λ gs. given (calls k scene at gs cells) (λ left. or_fault at left.result)))
       go None found e = absurd (not_some e)
       go (Some r) found e = fit r found (arguments_fit scope r.formals args) e
@@ -125,6 +124,7 @@ module _ (types : Declared) (calls : Calls) (scope : Scope) (scene : Scene) (at 
 
   mutual
     unfolding value_of type_of
+
     pub value_typed : (e : Expr) (s : Simple) → type_of scope e ≡ Some s → Valued s (value_of calls scene at cells e)
     value_typed (x.Known v) s e = known_typed scene.nodes scope.kinds v s e
     value_typed (x.Bound k) s e = bound_typed k s e
@@ -148,6 +148,7 @@ module _ (types : Declared) (calls : Calls) (scope : Scope) (scene : Scene) (at 
         pick : (c : Bool) → Valued s (value_of calls scene at cells a) → Valued s (value_of calls scene at cells b) → Valued s (if c then value_of calls scene at cells a else value_of calls scene at cells b)
         pick true first second = first
         pick false first second = second
+
         go : (c : Bool) → (is_of simple.Truth (type_of scope test) && comparable compare.Equal (type_of scope a) (type_of scope b)) ≡ c → only_if c (type_of scope a) ≡ Some s → (type_of scope a ≡ Some s → Valued s (value_of calls scene at cells a)) → (type_of scope b ≡ Some s → Valued s (value_of calls scene at cells b)) → Valued s (given (value_of calls scene at cells test) (λ v. if truth v then value_of calls scene at cells a else value_of calls scene at cells b))
         go false was e first second = absurd (not_some e)
         go true was e first second =

@@ -9,7 +9,6 @@ use Rattle.murphi_ast.specs.declared.token.Span.{Span}
 use Rattle.murphi_typed.specs.declared.types.Simple.{Simple}
 use Rattle.murphi_typed.specs.declared.types.AnyType as t
 use Rattle.murphi_typed.specs.declared.types.AnyType.{AnyType, Row_of-Field, end_of-Field, more_of-Field}
-use Rattle.murphi_typed.specs.declared.expr.Root.{Root}
 use Rattle.murphi_typed.specs.declared.expr.Designator as d
 use Rattle.murphi_typed.specs.declared.expr.Designator.{Designator}
 use Rattle.murphi_typed.specs.Forms.{ArrayForm}
@@ -17,7 +16,7 @@ use Rattle.murphi_typed.specs.Values.{may_hold}
 use Rattle.murphi_typed.specs.Families.{Path, leaf_at}
 use Rattle.murphi_typed.specs.Store.{same_owner, Place, Contents, Cells, contents_at, written, renewed, beyond, only}
 use Rattle.murphi_typed.specs.Outcome.{Outcome, Got, Fault, given, or_fault}
-use Rattle.murphi_typed.specs.Expressions.{Scene, Calls, root_place, row_path, under, value_of, place_of, indices_of}
+use Rattle.murphi_typed.specs.Expressions.{Scene, Calls, row_path, under, value_of, place_of, indices_of}
 use Rattle.murphi_typed.specs.WellTyped.{Scope, root_type, type_of, place_type, selected_type, is_cell_of}
 use Rattle.murphi_typed.specs.Keeping.{Declared, AreKept, HasType, SceneFits}
 use Rattle.murphi_typed.proofs.TestLemmas.{owners_true, names_true, simples_true, beyond_some}

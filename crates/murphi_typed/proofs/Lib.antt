@@ -14,3 +14,4 @@ pub mod MovedEquations
 pub mod StateLemmas
 pub mod ValueLemmas
 pub mod ExpressionLemmas
+pub mod TopLemmas

@@ -75,7 +75,7 @@ get_before [] x r (suc k) e other = absurd (not_some e)
 get_before (y ∷ xs) x r zero e other = e
 get_before (y ∷ xs) x r (suc k) e other = get_before xs x r k e (λ same. other (ap suc same))
 
-reversed : {A : Type 0} (x : A) (xs : List A) → reverse (x ∷ xs) ≡ reverse xs ++ x ∷ []
+pub reversed : {A : Type 0} (x : A) (xs : List A) → reverse (x ∷ xs) ≡ reverse xs ++ x ∷ []
 reversed x xs = reverse-append (x ∷ []) xs
 
 latest_kept : (T : Typed) (latest : List Routine) → LatestFit T latest → CallsKeep T.globals (reverse latest) (calls_of latest)

@@ -45,11 +45,11 @@ cells_fine N kinds all first (v ∷ vs) fine there =
     (each_flat (IsFine all) (cells_on N first) (ways v.of) (each_other (Leads v.of) (λ way. Each (IsFine all) (cells_on N first way)) (ways v.of) (λ way leads. each_map (IsFine all) (λ at. record { global = first; way = way; at = at }) (choices N (axes_of way.steps)) (each_all _ (choices N (axes_of way.steps)) (λ at. (v.of, ap variable_type here, leads)))) (ways_lead kinds v.of one)))
     (cells_fine N kinds all (suc first) vs rest (λ j. ap (slice_get all) (omega arith) ∙ there (suc j)))
 
-all_fine : (N : ℕ) (T : Typed) → are_variables T.kinds T.globals ≡ true → Each (IsFine T.globals) (cells N T)
+pub all_fine : (N : ℕ) (T : Typed) → are_variables T.kinds T.globals ≡ true → Each (IsFine T.globals) (cells N T)
 all_fine N T fine = cells_fine N T.kinds T.globals 0 T.globals fine (λ j. ap (slice_get T.globals) (omega arith))
 
 -- the values of a state are within the types of the cells
-listed_kept : (N : ℕ) (globals : List Variable) (types : Declared) → HasGlobals types globals → (cs : List Cell) (vs : State) → Each (IsFine globals) cs → ((k : ℕ) (c : Cell) (v : Value) → slice_get cs k ≡ Some c → slice_get vs k ≡ Some v → may_hold N c.way.leaf v ≡ true) → AreKept N types (listed cs vs)
+pub listed_kept : (N : ℕ) (globals : List Variable) (types : Declared) → HasGlobals types globals → (cs : List Cell) (vs : State) → Each (IsFine globals) cs → ((k : ℕ) (c : Cell) (v : Value) → slice_get cs k ≡ Some c → slice_get vs k ≡ Some v → may_hold N c.way.leaf v ≡ true) → AreKept N types (listed cs vs)
 listed_kept N globals types has [] vs fine may owner type declared path leaf leads at = refl
 listed_kept N globals types has (c ∷ cs) [] fine may owner type declared path leaf leads at = refl
 listed_kept N globals types has (c ∷ cs) (v ∷ vs) fine may owner type declared path leaf leads at = go (is_cell c owner path at) refl (listed_kept N globals types has cs vs fine.1 (λ k. may (suc k)) owner type declared path leaf leads at)
@@ -68,12 +68,12 @@ blank_kept : (N : ℕ) (types : Declared) → AreKept N types blank
 blank_kept N types owner type declared path leaf leads at = refl
 
 -- the variables of the body of a rule or of a start state
-top_types : Typed → List Variable → Declared
+pub top_types : Typed → List Variable → Declared
 top_types T locals (Global k) = variable_type (slice_get T.globals k)
 top_types T locals (Local of k) = if nat_eq of 0 then variable_type (slice_get locals k) else None
 top_types T locals (Formal of k) = None
 
-top_has : (T : Typed) (locals : List Variable) → HasGlobals (top_types T locals) T.globals
+pub top_has : (T : Typed) (locals : List Variable) → HasGlobals (top_types T locals) T.globals
 unfolding top_types
 top_has T locals k = refl
 
@@ -88,7 +88,7 @@ top_shallow T locals of k deep = (go (nat_eq of 0) refl, refl)
         let more : 0 < of = ltb-true 0 of deep in
         absurd (omega arith)
 
-top_fits : (N : ℕ) (T : Typed) (locals : List Variable) (params : List Parameter) (p : List Value) → SceneFits (top_types T locals) (top_scope T locals params) (outermost N p)
+pub top_fits : (N : ℕ) (T : Typed) (locals : List Variable) (params : List Parameter) (p : List Value) → SceneFits (top_types T locals) (top_scope T locals params) (outermost N p)
 unfolding top_types
 top_fits N T locals params p (root.Global k) U e = (whole (Global k), refl, (U, e, λ path. refl))
 top_fits N T locals params p (root.Local k) U e = (whole (Local 0 k), refl, (U, e, λ path. refl))
@@ -106,7 +106,7 @@ state_is N T locals now fine kept = record { count = length-map (cells N T) (val
         let (type, declared, leads) = each_at (IsFine T.globals) (cells N T) k c (all_fine N T fine) here in
         ap (may_hold N c.way.leaf) (sym value_is) ∙ kept (Global c.global) type declared (path_of c.way.steps) c.way.leaf leads c.at
 
-all_at : {A : Type 0} (test : A → Bool) (xs : List A) (k : ℕ) (x : A) → list_all test xs ≡ true → slice_get xs k ≡ Some x → test x ≡ true
+pub all_at : {A : Type 0} (test : A → Bool) (xs : List A) (k : ℕ) (x : A) → list_all test xs ≡ true → slice_get xs k ≡ Some x → test x ≡ true
 all_at test [] k x e there = absurd (not_some there)
 all_at test (y ∷ xs) zero x e there = let (first, rest) = and_parts (test y) (list_all test xs) e in ap test (sym (some_same there)) ∙ first
 all_at test (y ∷ xs) (suc k) x e there = let (first, rest) = and_parts (test y) (list_all test xs) e in all_at test xs k x rest there

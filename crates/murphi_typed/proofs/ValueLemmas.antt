@@ -1,31 +1,25 @@
 -- The value of a well-typed expression is one of its type.
-use Rattle.std.proofs.Common.{◌≡◌, ℕ, zero, suc, ◌<◌, ◌≤◌, ◌^◌, Bool, true, false, not, ◌&&◌, List, [], ◌∷◌, ◌++◌, reverse, length, Option, None, Some, refl, sym, ap, ◌∙◌, subst, arith}
-use Rattle.std.specs.Prelude.{nat_eq, nat_lt, if◌then◌else◌, slice_get, ℤ, pos, negsuc, int_le, option_map, option_and_then, is_some}
-use Rattle.std.specs.List.{list_all}
-use Rattle.std.specs.Option.{option_map_or}
-use Rattle.std.proofs.lemmas.Bool.{and_parts, eq-eqb, eqb-true, eqb-false}
-use Rattle.std.proofs.lemmas.List.{length-reverse}
+use Rattle.std.proofs.Common.{◌≡◌, ℕ, Bool, true, false, ◌&&◌, List, length, Option, None, Some, refl, sym, ap, ◌∙◌, arith}
+use Rattle.std.specs.Prelude.{nat_eq, nat_lt, if◌then◌else◌, slice_get, ℤ, pos, negsuc, int_le}
+use Rattle.std.proofs.lemmas.Bool.{and_parts, eq-eqb}
 use Rattle.term_core.specs.declared.value.Value.{Value}
 use Rattle.term_core.specs.declared.value.Value.TheVariants as value
 use Rattle.term_core.specs.declared.value.ArithOp.{ArithOp}
 use Rattle.term_core.specs.declared.value.ArithOp.TheVariants as arith'
-use Rattle.term_core.specs.Values.{truth, number, is_number, same_value}
+use Rattle.term_core.specs.Values.{truth, number, is_number}
 use Rattle.murphi_ast.specs.declared.token.Span.{Span}
 use Rattle.murphi_ast.specs.declared.expr.ChainOp.{ChainOp}
 use Rattle.murphi_ast.specs.declared.expr.ChainOp.TheVariants as op
-use Rattle.murphi_ast.specs.declared.expr.CompareOp.TheVariants as compare
 use Rattle.murphi_typed.specs.declared.types.Simple.{Simple}
 use Rattle.murphi_typed.specs.declared.types.Simple.TheVariants as simple
-use Rattle.murphi_typed.specs.declared.types.AnyType as t
-use Rattle.murphi_typed.specs.declared.types.AnyType.{AnyType}
 use Rattle.murphi_typed.specs.declared.types.Kind.{Kind}
 use Rattle.murphi_typed.specs.declared.types.Kind.TheVariants as kind
-use Rattle.murphi_typed.specs.Values.{is_value, may_hold, values}
+use Rattle.murphi_typed.specs.Values.{is_value, may_hold}
 use Rattle.murphi_typed.specs.Outcome.{Outcome, Got, Fault, given, or_fault}
 use Rattle.murphi_typed.specs.Expressions.{in_range, calculated, result_of, joined, defined, as_truth}
-use Rattle.murphi_typed.specs.WellTyped.{numbers, widened, same_simple, is_simple_type, is_listed, only_if, enum_type, known_type, operand_type}
+use Rattle.murphi_typed.specs.WellTyped.{numbers, widened, is_simple_type, only_if, enum_type, known_type, operand_type}
 use Rattle.murphi_typed.proofs.LeafLemmas.{some_same, not_some}
-use Rattle.murphi_typed.proofs.KeepLemmas.{IfGot, if_given, if_after}
+use Rattle.murphi_typed.proofs.KeepLemmas.{IfGot, if_after}
 
 order : (a b c : ℤ) → int_le a b ≡ true → int_le b c ≡ true → int_le a c ≡ true
 order (pos a) (pos b) (pos c) e f = grind (arith)
@@ -115,6 +109,7 @@ known_typed N kinds (value.Member k i) s e = go (slice_get kinds k) e
     fits : (count : ℕ) → (b : Bool) → nat_lt i count ≡ b → only_if b (Some (simple.Listed k count)) ≡ Some s → is_value N s (value.Member k i) ≡ true
     fits count true was e = ap (λ u. is_value N u (value.Member k i)) (sym (some_same e)) ∙ both_true (nat_eq k k) (nat_lt i count) (eq-eqb k k refl) was
     fits count false was e = absurd (not_some e)
+
     go : (o : Option Kind) → enum_type k i o ≡ Some s → is_value N s (value.Member k i) ≡ true
     go None e = absurd (not_some e)
     go (Some (kind.Scalarset name count)) e = absurd (not_some e)
