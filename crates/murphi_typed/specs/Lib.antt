@@ -12,6 +12,7 @@ pub mod Prefix
 pub mod PrefixLists
 pub mod WellTyped
 pub mod Keeping
+pub mod Laws
 pub mod Worked
 pub mod WorkedBodies
 pub mod WorkedSteps
