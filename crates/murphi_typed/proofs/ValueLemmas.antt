@@ -1,6 +1,6 @@
 -- The value of a well-typed expression is one of its type.
 use Rattle.std.proofs.Common.{◌≡◌, ℕ, Bool, true, false, ◌&&◌, List, length, Option, None, Some, refl, sym, ap, ◌∙◌, arith}
-use Rattle.std.specs.Prelude.{nat_eq, nat_lt, if◌then◌else◌, slice_get, ℤ, pos, negsuc, int_le}
+use Rattle.std.specs.Prelude.{nat_eq, nat_lt, if◌then◌else◌, slice_get, ℤ, pos, negsuc, int_le, nat_le, ◌-ℤ◌}
 use Rattle.std.proofs.lemmas.Bool.{and_parts, eq-eqb}
 use Rattle.term_core.specs.declared.value.Value.{Value}
 use Rattle.term_core.specs.declared.value.Value.TheVariants as value
@@ -14,7 +14,7 @@ use Rattle.murphi_typed.specs.declared.types.Simple.{Simple}
 use Rattle.murphi_typed.specs.declared.types.Simple.TheVariants as simple
 use Rattle.murphi_typed.specs.declared.types.Kind.{Kind}
 use Rattle.murphi_typed.specs.declared.types.Kind.TheVariants as kind
-use Rattle.murphi_typed.specs.Values.{is_value, may_hold}
+use Rattle.murphi_typed.specs.Values.{is_value, may_hold, numbers_within}
 use Rattle.murphi_typed.specs.Outcome.{Outcome, Got, Fault, given, or_fault}
 use Rattle.murphi_typed.specs.Expressions.{in_range, calculated, result_of, joined, defined, as_truth}
 use Rattle.murphi_typed.specs.WellTyped.{numbers, widened, is_simple_type, only_if, enum_type, known_type, operand_type}
@@ -55,8 +55,8 @@ widened_value N kinds (simple.Range low high) (value.Truth b) fine e = cc
 widened_value N kinds (simple.Range low high) (value.Member k b) fine e = cc
 widened_value N kinds (simple.Range low high) (value.Node n) fine e = cc
 widened_value N kinds (simple.Range low high) (value.Number z) fine e =
-    let (l, rest) = and_parts (is_number low) (is_number high && int_le low high) fine in
-    let (h, ordered) = and_parts (is_number high) (int_le low high) rest in
+    let (l, rest) = and_parts (is_number low) (is_number high && (int_le low high && nat_le (numbers_within (high -ℤ low)) 256)) fine in
+    let (h, ordered) = and_parts (is_number high) (int_le low high && nat_le (numbers_within (high -ℤ low)) 256) rest in
     let (above, below) = and_parts (int_le low z) (int_le z high) e in
     both_true (int_le (negsuc 32767) z) (int_le z (pos 32767)) (order (negsuc 32767) low z (low_number low l) above) (order z high (pos 32767) below (high_number high h))
 

@@ -1,6 +1,6 @@
 -- Which typed trees are well typed: what every protocol that is typed keeps, and what the laws of the meaning
 -- ask for. It is a test, by cases on the tree.
-use Rattle.std.specs.Prelude.{ℕ, Bool, true, false, not, ◌&&◌, nat_eq, nat_lt, nat_le, List, [], ◌∷◌, ◌++◌, map, length, pos, negsuc, int_le, Option, None, Some, option_and_then, option_map, if◌then◌else◌, slice_get, is_some}
+use Rattle.std.specs.Prelude.{ℕ, Bool, true, false, not, ◌&&◌, nat_eq, nat_lt, nat_le, List, [], ◌∷◌, ◌++◌, map, length, pos, negsuc, int_le, Option, None, Some, option_and_then, option_map, if◌then◌else◌, slice_get, is_some, ◌-ℤ◌}
 use Rattle.std.specs.List.{list_all}
 use Rattle.std.specs.Option.{option_map_or}
 use Rattle.std.specs.Str.{bytes_eq}
@@ -39,6 +39,7 @@ use Rattle.murphi_typed.specs.declared.protocol.Start.{Start}
 use Rattle.murphi_typed.specs.declared.protocol.TypedFormula.{TypedFormula}
 use Rattle.murphi_typed.specs.declared.protocol.Typed.{Typed}
 use Rattle.murphi_typed.specs.Forms.{ArrayForm, NotForm, MinusForm, CompareForm, ImpliesForm, ChoiceForm, QuantifiedForm}
+use Rattle.murphi_typed.specs.Values.{numbers_within}
 use Rattle.murphi_typed.specs.Families.{Name}
 
 -- Types
@@ -74,7 +75,8 @@ is_scalarset _ count = false
 -- has 1 to 256 values
 abbrev pub is_simple_type : List Kind → Simple → Bool
 is_simple_type kinds simple.Truth = true
-is_simple_type kinds (simple.Range low high) = is_number low && (is_number high && int_le low high)
+is_simple_type kinds (simple.Range low high) =
+    is_number low && (is_number high && (int_le low high && nat_le (numbers_within (high -ℤ low)) 256))
 is_simple_type kinds (simple.Listed kind count) =
     is_listed (slice_get kinds kind) count && (nat_lt 0 count && nat_le count 256)
 is_simple_type kinds (simple.Scalarset kind count) =
