@@ -1,6 +1,6 @@
 -- Bodies keep every cell within its type.
-use Rattle.std.proofs.Common.{◌≡◌, ℕ, zero, suc, ◌<◌, Bool, true, false, not, ◌&&◌, List, [], ◌∷◌, ◌++◌, Option, None, Some, refl, sym, ap, ◌∙◌, subst}
-use Rattle.std.specs.Prelude.{nat_eq, if◌then◌else◌, slice_get, is_some}
+use Rattle.std.proofs.Common.{◌≡◌, ℕ, Bool, true, false, not, ◌&&◌, List, [], ◌∷◌, Option, None, Some, refl, sym, ◌∙◌}
+use Rattle.std.specs.Prelude.{if◌then◌else◌, slice_get, is_some}
 use Rattle.std.specs.Option.{option_map_or}
 use Rattle.std.proofs.lemmas.Bool.{and_parts}
 use Rattle.term_core.specs.declared.value.Value.{Value}
@@ -11,25 +11,21 @@ use Rattle.murphi_typed.specs.declared.types.Simple.{Simple}
 use Rattle.murphi_typed.specs.declared.types.Simple.TheVariants as simple
 use Rattle.murphi_typed.specs.declared.types.AnyType as t
 use Rattle.murphi_typed.specs.declared.types.AnyType.{AnyType}
-use Rattle.murphi_typed.specs.declared.expr.Root.{Root}
 use Rattle.murphi_typed.specs.declared.expr.Root.TheVariants as root
-use Rattle.murphi_typed.specs.declared.expr.Expr.{Expr}
-use Rattle.murphi_typed.specs.declared.expr.Designator.{Designator}
 use Rattle.murphi_typed.specs.declared.expr.Arguments.{Arguments}
 use Rattle.murphi_typed.specs.declared.stmt.Stmt as s
 use Rattle.murphi_typed.specs.declared.stmt.Stmt.{Stmt, Row_of-Stmt, end_of-Stmt, more_of-Stmt, Row_of-Arm, end_of-Arm, more_of-Arm, Row_of-Case, end_of-Case, more_of-Case}
 use Rattle.murphi_typed.specs.declared.protocol.Routine.{Routine}
 use Rattle.murphi_typed.specs.declared.protocol.Variable.{Variable}
 use Rattle.murphi_typed.specs.Values.{may_hold, values}
-use Rattle.murphi_typed.specs.Families.{Path, leaf_at}
-use Rattle.murphi_typed.specs.Store.{Place, Contents, Cells, cell_at, contents_at, written, only}
-use Rattle.murphi_typed.specs.Outcome.{Outcome, Got, Fault, given}
-use Rattle.murphi_typed.specs.Expressions.{Given, Scene, Left, Calls, with_bound, fitting, root_place, value_of, place_of, arguments_of}
+use Rattle.murphi_typed.specs.Store.{Place, Cells, cell_at, contents_at, written, only}
+use Rattle.murphi_typed.specs.Outcome.{Outcome, Got, Fault}
+use Rattle.murphi_typed.specs.Expressions.{Given, Scene, Left, Calls, with_bound, fitting, value_of, place_of, arguments_of}
 use Rattle.murphi_typed.specs.Execution.{Ending, Next, Returned, cells_after, then_on, turns, at_of, stored, with_value, cleared, is_among, run, run_all, run_arms, run_cases}
-use Rattle.murphi_typed.specs.WellTyped.{Scope, binding, root_type, may_write, root_of, type_of, place_type, is_of, is_cell_of, holds_values_of, are_alike, is_compound, same_type, is_type, arguments_fit, labels_fit, is_function, is_procedure, returns, is_simple_type, stmt_fits, body_fits, arms_fit, cases_fit}
-use Rattle.murphi_typed.specs.Keeping.{Declared, AreKept}
-use Rattle.murphi_typed.proofs.LeafLemmas.{some_same, not_some, same_leaf}
-use Rattle.murphi_typed.proofs.KeepLemmas.{IfGot, if_given, if_after, if_any, HasType, SceneFits, HoldsFor, place_has, written_kept, contents_hold, only_holds, undefined_holds, cell_type}
+use Rattle.murphi_typed.specs.WellTyped.{Scope, binding, may_write, root_of, type_of, place_type, is_of, is_cell_of, holds_values_of, are_alike, is_compound, same_type, is_type, arguments_fit, labels_fit, is_function, is_simple_type, stmt_fits, body_fits, arms_fit, cases_fit}
+use Rattle.murphi_typed.specs.Keeping.{Declared, AreKept, HasType, SceneFits}
+use Rattle.murphi_typed.proofs.LeafLemmas.{same_leaf}
+use Rattle.murphi_typed.proofs.KeepLemmas.{IfGot, if_given, if_after, place_has, written_kept, contents_hold, only_holds, undefined_holds, cell_type}
 use Rattle.murphi_typed.proofs.ClearLemmas.{cleared_holds}
 use Rattle.murphi_typed.proofs.EntryLemmas.{GivenFit, arguments_given}
 use Rattle.murphi_typed.proofs.InnerLemmas.{IsShallow, HasGlobals}
@@ -93,6 +89,7 @@ module _ (types : Declared) (calls : Calls) where
 
   mutual
     unfolding run stmt_fits
+
     pub run_kept : (scope : Scope) (scene : Scene) (cells : Cells) (body : Stmt) → SceneFits types scope scene → IsShallow types scene.depth → HasGlobals types scope.globals → CallsKeep scope.globals scope.routines calls → AreKept scene.nodes types cells → stmt_fits scope body ≡ true → IfGot (EndingKept scene.nodes types) (run calls scene cells body)
     run_kept scope scene cells (s.Block' _ body) fits shallow has keeps kept e = all_kept scope scene cells body fits shallow has keeps kept e
     run_kept scope scene cells (s.Assign to into body) fits shallow has keeps kept e =

@@ -1,10 +1,9 @@
 -- What `clear` gives is of the type of each cell.
-use Rattle.std.proofs.Common.{◌≡◌, ℕ, zero, suc, ◌<◌, Bool, true, false, not, ◌&&◌, List, [], ◌∷◌, Option, None, Some, refl, sym, ap, ◌∙◌, arith}
-use Rattle.std.specs.Prelude.{nat_eq, nat_lt, nat_le, if◌then◌else◌, slice_get, int_le, is_some, ℤ, pos, negsuc}
+use Rattle.std.proofs.Common.{◌≡◌, ℕ, Bool, true, false, not, ◌&&◌, List, [], ◌∷◌, Some, refl, sym, ap, ◌∙◌, arith}
+use Rattle.std.specs.Prelude.{nat_lt, nat_le, if◌then◌else◌, slice_get, int_le, is_some, ℤ, pos, negsuc, ◌-ℤ◌}
 use Rattle.std.specs.Option.{option_map_or}
 use Rattle.std.specs.Str.{bytes_eq}
-use Rattle.std.proofs.lemmas.Bool.{and_parts, eq-eqb, ltb-true, lt-ltb}
-use Rattle.term_core.specs.declared.value.Value.{Value}
+use Rattle.std.proofs.lemmas.Bool.{and_parts, eq-eqb}
 use Rattle.term_core.specs.declared.value.Value.TheVariants as value
 use Rattle.term_core.specs.Values.{is_number}
 use Rattle.murphi_typed.specs.declared.types.Simple.{Simple}
@@ -13,7 +12,7 @@ use Rattle.murphi_typed.specs.declared.types.AnyType as t
 use Rattle.murphi_typed.specs.declared.types.AnyType.{AnyType, Row_of-Field, end_of-Field, more_of-Field}
 use Rattle.murphi_typed.specs.declared.types.Kind.{Kind}
 use Rattle.murphi_typed.specs.Forms.{ArrayForm}
-use Rattle.murphi_typed.specs.Values.{may_hold, cleared_value}
+use Rattle.murphi_typed.specs.Values.{may_hold, cleared_value, numbers_within}
 use Rattle.murphi_typed.specs.Families.{Path, Name, leaf_at, row_leaf}
 use Rattle.murphi_typed.specs.Execution.{cleared}
 use Rattle.murphi_typed.specs.WellTyped.{is_simple_type, is_type, are_fields, row_field, is_listed}
@@ -22,7 +21,8 @@ use Rattle.murphi_typed.proofs.KeepLemmas.{HoldsFor}
 
 mutual
   unfolding leaf_at is_type
-  leaf_fine : (kinds : List Kind) (U : AnyType) → is_type kinds U ≡ true → (path : Path) (leaf : Simple) → leaf_at U path ≡ Some leaf → is_simple_type kinds leaf ≡ true
+
+  pub leaf_fine : (kinds : List Kind) (U : AnyType) → is_type kinds U ≡ true → (path : Path) (leaf : Simple) → leaf_at U path ≡ Some leaf → is_simple_type kinds leaf ≡ true
   leaf_fine kinds (t.Simple type) fine [] leaf e = ap (is_simple_type kinds) (sym (some_same e)) ∙ fine
   leaf_fine kinds (t.Simple type) fine (name ∷ path) leaf e = absurd (not_some e)
   leaf_fine kinds (t.Record' _ fields) fine [] leaf e = absurd (not_some e)
@@ -49,8 +49,9 @@ int_le_refl (negsuc n) = grind (arith)
 cleared_fits : (N : ℕ) (kinds : List Kind) (leaf : Simple) → is_simple_type kinds leaf ≡ true → may_hold N leaf (cleared_value leaf) ≡ true
 cleared_fits N kinds simple.Truth fine = refl
 cleared_fits N kinds (simple.Range low high) fine =
-    let (l, rest) = and_parts (is_number low) (is_number high && int_le low high) fine in
-    let (h, order) = and_parts (is_number high) (int_le low high) rest in
+    let (l, rest) = and_parts (is_number low) (is_number high && (int_le low high && nat_le (numbers_within (high -ℤ low)) 256)) fine in
+    let (h, both) = and_parts (is_number high) (int_le low high && nat_le (numbers_within (high -ℤ low)) 256) rest in
+    let (order, few) = and_parts (int_le low high) (nat_le (numbers_within (high -ℤ low)) 256) both in
     ap (λ b. b && int_le low high) (int_le_refl low) ∙ order
 cleared_fits N kinds (simple.Listed kind count) fine =
     let (listed, rest) = and_parts (is_listed (slice_get kinds kind) count) (nat_lt 0 count && nat_le count 256) fine in

@@ -1,32 +1,23 @@
 -- Calls: what the formals are given, and the cells at the entry of a routine.
-use Rattle.std.proofs.Common.{◌≡◌, ℕ, zero, suc, ◌<◌, Bool, true, false, not, ◌&&◌, ◌⊎◌, inl, inr, List, [], ◌∷◌, ◌++◌, Option, None, Some, refl, sym, ap, ◌∙◌, subst, arith}
-use Rattle.std.specs.Prelude.{nat_eq, nat_lt, if◌then◌else◌, slice_get}
+use Rattle.std.proofs.Common.{◌≡◌, ℕ, Bool, true, false, not, ◌&&◌, ◌⊎◌, inl, inr, List, [], ◌∷◌, Option, None, Some, refl, sym, ap, ◌∙◌, subst}
 use Rattle.std.specs.Option.{option_map_or}
-use Rattle.std.proofs.lemmas.Bool.{and_parts, eq-eqb, eqb-true, lt-ltb, ltb-true}
+use Rattle.std.proofs.lemmas.Bool.{and_parts}
 use Rattle.term_core.specs.declared.value.Value.{Value}
-use Rattle.term_core.specs.declared.value.Value.TheVariants as value
 use Rattle.murphi_ast.specs.declared.token.Span.{Span}
 use Rattle.murphi_typed.specs.declared.types.Simple.{Simple}
 use Rattle.murphi_typed.specs.declared.types.AnyType as t
 use Rattle.murphi_typed.specs.declared.types.AnyType.{AnyType}
-use Rattle.murphi_typed.specs.declared.expr.Root.{Root}
-use Rattle.murphi_typed.specs.declared.expr.Root.TheVariants as root
 use Rattle.murphi_typed.specs.declared.expr.Arguments as a
 use Rattle.murphi_typed.specs.declared.expr.Arguments.{Arguments, Row_of-Argument, end_of-Argument, more_of-Argument}
 use Rattle.murphi_typed.specs.declared.expr.Argument as argument
 use Rattle.murphi_typed.specs.declared.protocol.Formal.{Formal as DeclaredFormal}
-use Rattle.murphi_typed.specs.declared.protocol.Routine.{Routine}
-use Rattle.murphi_typed.specs.declared.protocol.Variable.{Variable}
-use Rattle.murphi_typed.specs.Values.{may_hold}
-use Rattle.murphi_typed.specs.Families.{Path, leaf_at}
-use Rattle.murphi_typed.specs.Store.{Owner, Global, Local, Formal, Place, Contents, Cells, cell_at, contents_at, only}
-use Rattle.murphi_typed.specs.Outcome.{Outcome, Got, Fault, given}
-use Rattle.murphi_typed.specs.Expressions.{Given, Filled, Standing, Scene, Calls, root_place, whole, value_of, place_of, argument_of, row_arguments, arguments_of}
-use Rattle.murphi_typed.specs.Execution.{simple_type, formal_holds, formal_fits, formals_fit, filled, entered, called_scene}
-use Rattle.murphi_typed.specs.WellTyped.{Scope, root_type, variable_type, formal_type, type_of, place_type, simple_part, widened, is_of, same_type, is_compound, place_fits, given_place, given_compound, given_value, may_write, root_of, first_of, rest_of, row_fits, arguments_fit, argument_fits}
-use Rattle.murphi_typed.specs.Keeping.{Declared, AreKept}
+use Rattle.murphi_typed.specs.Store.{Contents, Cells, cell_at, contents_at, only}
+use Rattle.murphi_typed.specs.Outcome.{Got, given}
+use Rattle.murphi_typed.specs.Expressions.{Given, Filled, Standing, Scene, Calls, value_of, place_of, argument_of, row_arguments, arguments_of}
+use Rattle.murphi_typed.specs.WellTyped.{Scope, type_of, place_type, simple_part, is_of, is_compound, place_fits, given_value, may_write, root_of, row_fits, arguments_fit, argument_fits}
+use Rattle.murphi_typed.specs.Keeping.{Declared, AreKept, HasType, SceneFits}
 use Rattle.murphi_typed.proofs.LeafLemmas.{some_same, not_some, same_leaf}
-use Rattle.murphi_typed.proofs.KeepLemmas.{IfGot, if_given, if_after, HasType, SceneFits, HoldsFor, place_has, contents_hold, only_holds}
+use Rattle.murphi_typed.proofs.KeepLemmas.{IfGot, if_given, if_after, HoldsFor, place_has, contents_hold}
 
 -- a formal by value of simple type is given one value
 abbrev pub IsOne : AnyType → Contents → Type 0

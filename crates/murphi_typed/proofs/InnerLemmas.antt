@@ -1,28 +1,22 @@
 -- The variables of a called routine: their types, their cells at the entry, and what they stand for.
-use Rattle.std.proofs.Common.{◌≡◌, ℕ, zero, suc, ◌<◌, Bool, true, false, not, ◌&&◌, ◌⊎◌, inl, inr, List, [], ◌∷◌, ◌++◌, Option, None, Some, refl, sym, ap, ◌∙◌, subst, arith}
+use Rattle.std.proofs.Common.{◌≡◌, ℕ, zero, suc, ◌<◌, Bool, true, false, ◌⊎◌, inl, inr, List, [], ◌∷◌, Option, None, Some, refl, sym, ap, ◌∙◌, subst, arith}
 use Rattle.std.specs.Prelude.{nat_eq, nat_lt, if◌then◌else◌, slice_get}
-use Rattle.std.specs.Option.{option_map_or}
 use Rattle.std.proofs.lemmas.Bool.{and_parts, eq-eqb, eqb-true, lt-ltb, ltb-true}
-use Rattle.term_core.specs.declared.value.Value.{Value}
 use Rattle.term_core.specs.declared.value.Value.TheVariants as value
-use Rattle.murphi_typed.specs.declared.types.Simple.{Simple}
 use Rattle.murphi_typed.specs.declared.types.AnyType as t
 use Rattle.murphi_typed.specs.declared.types.AnyType.{AnyType}
-use Rattle.murphi_typed.specs.declared.expr.Root.{Root}
 use Rattle.murphi_typed.specs.declared.expr.Root.TheVariants as root
 use Rattle.murphi_typed.specs.declared.protocol.Formal.{Formal as DeclaredFormal}
-use Rattle.murphi_typed.specs.declared.protocol.Routine.{Routine}
 use Rattle.murphi_typed.specs.declared.protocol.Variable.{Variable}
-use Rattle.murphi_typed.specs.declared.protocol.Typed.{Typed}
 use Rattle.murphi_typed.specs.Values.{may_hold}
-use Rattle.murphi_typed.specs.Families.{Path, leaf_at}
+use Rattle.murphi_typed.specs.Families.{leaf_at}
 use Rattle.murphi_typed.specs.Store.{Owner, Global, Local, Formal, Place, Contents, Cells, only}
 use Rattle.murphi_typed.specs.Expressions.{Given, Filled, Standing, Scene, root_place, stood_for, whole}
-use Rattle.murphi_typed.specs.Execution.{simple_type, formal_holds, formal_fits, formals_fit, filled, entered, called_scene}
-use Rattle.murphi_typed.specs.WellTyped.{Scope, root_type, variable_type, formal_type, routine_scope}
-use Rattle.murphi_typed.specs.Keeping.{Declared, AreKept}
+use Rattle.murphi_typed.specs.Execution.{formal_holds, formal_fits, formals_fit, filled, entered, called_scene}
+use Rattle.murphi_typed.specs.WellTyped.{Scope, variable_type, formal_type}
+use Rattle.murphi_typed.specs.Keeping.{Declared, AreKept, HasType, SceneFits}
 use Rattle.murphi_typed.proofs.LeafLemmas.{some_same, not_some}
-use Rattle.murphi_typed.proofs.KeepLemmas.{HasType, SceneFits, HoldsFor, only_holds, undefined_holds}
+use Rattle.murphi_typed.proofs.KeepLemmas.{HoldsFor, only_holds}
 use Rattle.murphi_typed.proofs.EntryLemmas.{IsOne, FormalGiven, GivenFit}
 
 -- no variables deeper than this are declared
@@ -136,6 +130,7 @@ entered_kept N depth formals locals types gs cells fit tested kept (Formal of k)
     given_one : (f : DeclaredFormal) (g : Given) → f.by_place ≡ false → f.of ≡ T → slice_get gs k ≡ Some g → FormalGiven N types f g → formal_fits N f g ≡ true → may_hold N leaf (filled (slice_get gs k) path at) ≡ true
     given_one f (Filled contents) by of' there has test = ap (λ o. may_hold N leaf (filled o path at)) there ∙ filled_holds N types f contents has test path leaf (ap (λ U. leaf_at U path) of' ∙ leads) at
     given_one f (Standing p) by of' there has test = let wrong : true ≡ false = sym (has.0) ∙ by in cc
+
     go : (b : Bool) → (if b then formal_type false (slice_get formals k) else types (Formal of k)) ≡ Some T → may_hold N leaf ((if b then filled (slice_get gs k) else cells (Formal of k)) path at) ≡ true
     go false e = kept (Formal of k) T e path leaf leads at
     go true e =

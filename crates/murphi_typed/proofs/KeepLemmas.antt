@@ -1,31 +1,25 @@
 -- What a place is, and that writing there keeps every cell within its type.
-use Rattle.std.proofs.Common.{◌≡◌, ℕ, zero, suc, Bool, true, false, not, ◌&&◌, List, [], ◌∷◌, ◌++◌, Option, None, Some, refl, sym, ap, ◌∙◌, subst, append_assoc}
-use Rattle.std.specs.Prelude.{nat_eq, nat_lt, if◌then◌else◌, slice_get, int_le}
-use Rattle.std.specs.Option.{option_map_or}
+use Rattle.std.proofs.Common.{◌≡◌, ℕ, Bool, true, false, List, [], ◌∷◌, ◌++◌, Option, None, Some, refl, sym, ap, ◌∙◌, subst, append_assoc}
+use Rattle.std.specs.Prelude.{if◌then◌else◌}
 use Rattle.std.specs.Str.{bytes_eq}
-use Rattle.std.proofs.lemmas.Bool.{and_parts}
 use Rattle.term_core.specs.declared.value.Value.{Value}
 use Rattle.term_core.specs.declared.value.Value.TheVariants as value
 use Rattle.term_core.specs.Values.{same_value}
 use Rattle.murphi_ast.specs.declared.token.Span.{Span}
 use Rattle.murphi_typed.specs.declared.types.Simple.{Simple}
-use Rattle.murphi_typed.specs.declared.types.Simple.TheVariants as simple
 use Rattle.murphi_typed.specs.declared.types.AnyType as t
 use Rattle.murphi_typed.specs.declared.types.AnyType.{AnyType, Row_of-Field, end_of-Field, more_of-Field}
-use Rattle.murphi_typed.specs.declared.types.Kind.{Kind}
-use Rattle.murphi_typed.specs.declared.expr.Root.{Root}
 use Rattle.murphi_typed.specs.declared.expr.Designator as d
 use Rattle.murphi_typed.specs.declared.expr.Designator.{Designator}
 use Rattle.murphi_typed.specs.Forms.{ArrayForm}
-use Rattle.murphi_typed.specs.Values.{may_hold, cleared_value}
-use Rattle.murphi_typed.specs.Families.{Path, Name, leaf_at, row_leaf}
-use Rattle.murphi_typed.specs.Store.{Owner, same_owner, Place, Contents, Cells, contents_at, written, renewed, beyond, only}
+use Rattle.murphi_typed.specs.Values.{may_hold}
+use Rattle.murphi_typed.specs.Families.{Path, leaf_at}
+use Rattle.murphi_typed.specs.Store.{same_owner, Place, Contents, Cells, contents_at, written, renewed, beyond, only}
 use Rattle.murphi_typed.specs.Outcome.{Outcome, Got, Fault, given, or_fault}
-use Rattle.murphi_typed.specs.Expressions.{Scene, Calls, root_place, row_path, under, value_of, place_of, indices_of}
-use Rattle.murphi_typed.specs.Execution.{cleared}
-use Rattle.murphi_typed.specs.WellTyped.{Scope, root_type, type_of, place_type, selected_type, simple_part, is_cell_of, same_simple, is_simple_type, is_type, are_fields, row_field}
-use Rattle.murphi_typed.specs.Keeping.{Declared, AreKept}
-use Rattle.murphi_typed.proofs.TestLemmas.{owners_true, names_true, values_true, simples_true, beyond_some}
+use Rattle.murphi_typed.specs.Expressions.{Scene, Calls, row_path, under, value_of, place_of, indices_of}
+use Rattle.murphi_typed.specs.WellTyped.{Scope, root_type, type_of, place_type, selected_type, is_cell_of}
+use Rattle.murphi_typed.specs.Keeping.{Declared, AreKept, HasType, SceneFits}
+use Rattle.murphi_typed.proofs.TestLemmas.{owners_true, names_true, simples_true, beyond_some}
 use Rattle.murphi_typed.proofs.LeafLemmas.{some_same, not_some, selected_leaf, selected_root}
 
 -- a fact of what is got, if anything is
@@ -43,14 +37,6 @@ if_any (Fault at) = tt
 
 pub if_after : {A B : Type 0} (P : B → Type 0) (o : Outcome A) (f : A → Outcome B) → ((a : A) → IfGot P (f a)) → IfGot P (given o f)
 if_after P o f next = if_given (λ a. Unit {0}) P o f (if_any o) (λ a nothing. next a)
-
--- the cells under a place are those of a type
-abbrev pub HasType : Declared → Place → AnyType → Type 0
-HasType types p U = (T : AnyType) × (types p.owner ≡ Some T) × ((path : Path) → leaf_at T (p.path ++ path) ≡ leaf_at U path)
-
--- each variable of a scope stands for a place of its type
-abbrev pub SceneFits : Declared → Scope → Scene → Type 0
-SceneFits types scope scene = (r : Root) (U : AnyType) → root_type scope r ≡ Some U → (p : Place) × (root_place scene r ≡ Some p) × HasType types p U
 
 -- contents that a type allows
 abbrev pub HoldsFor : ℕ → AnyType → Contents → Type 0
@@ -72,6 +58,7 @@ written_kept N types cells p U new kept has holds owner type declared path leaf 
   where
     old : may_hold N leaf (cells owner path at) ≡ true
     old = kept owner type declared path leaf leads at
+
     go : (b : Bool) → same_owner owner p.owner ≡ b → (o : Option Path) → beyond bytes_eq p.path path ≡ o → (q : Option (List Value)) → may_hold N leaf (if b then renewed new (cells owner path at) o q else cells owner path at) ≡ true
     go false was o beyond_is q = old
     go true was None beyond_is q = old

@@ -1,5 +1,5 @@
 -- The simple types that field names lead to.
-use Rattle.std.proofs.Common.{◌≡◌, ℕ, Bool, true, false, ◌&&◌, List, [], ◌∷◌, ◌++◌, Option, None, Some, refl, sym, ap, ◌∙◌, subst}
+use Rattle.std.proofs.Common.{◌≡◌, Bool, true, false, [], ◌∷◌, ◌++◌, Option, None, Some, refl, sym, ap, ◌∙◌}
 use Rattle.std.specs.Prelude.{if◌then◌else◌}
 use Rattle.std.specs.Option.{option_map_or}
 use Rattle.std.specs.Str.{bytes_eq}
@@ -84,6 +84,7 @@ selected_root scope (Some T) U row e = (T, refl)
 
 mutual
   unfolding leaf_at has_parts
+
   parts_leaf : (U V : AnyType) → has_parts U V ≡ true → (path : Path) (leaf : Simple) → leaf_at U path ≡ Some leaf → leaf_at V path ≡ Some leaf
   parts_leaf (t.Simple a) (t.Simple b) same [] leaf e = ap Some (sym (simples_true a b same)) ∙ e
   parts_leaf (t.Simple a) (t.Simple b) same (name ∷ path) leaf e = cc

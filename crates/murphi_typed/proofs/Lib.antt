@@ -10,3 +10,8 @@ pub mod BodyLemmas
 pub mod RoutineLemmas
 pub mod ListedLemmas
 pub mod StepLemmas
+pub mod MovedEquations
+pub mod StateLemmas
+pub mod ValueLemmas
+pub mod ExpressionLemmas
+pub mod TopLemmas

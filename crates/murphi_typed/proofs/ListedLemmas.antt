@@ -1,28 +1,17 @@
 -- The list of cells: what each of them is, and the values that a state gives to them.
-use Rattle.std.proofs.Common.{◌≡◌, ℕ, zero, suc, ◌<◌, Bool, true, false, not, ◌&&◌, List, [], ◌∷◌, ◌++◌, map, length, Option, None, Some, refl, sym, ap, ◌∙◌, subst, arith}
-use Rattle.std.specs.Prelude.{nat_eq, if◌then◌else◌, slice_get, is_some, IsTrue, option_map}
-use Rattle.std.specs.List.{flat_map, list_all}
+use Rattle.std.proofs.Common.{◌≡◌, ℕ, zero, suc, Bool, true, false, not, ◌&&◌, List, [], ◌∷◌, ◌++◌, map, Option, None, Some, refl, ap, ◌∙◌, subst, arith}
+use Rattle.std.specs.Prelude.{nat_eq, if◌then◌else◌, slice_get, is_some}
+use Rattle.std.specs.List.{flat_map}
 use Rattle.std.specs.Str.{bytes_eq}
 use Rattle.std.proofs.lemmas.Bool.{and_parts}
-use Rattle.std.proofs.lemmas.Option.{slice_get-map}
-use Rattle.std.proofs.lemmas.List.{length-map}
-use Rattle.term_core.specs.declared.value.Value.{Value}
-use Rattle.term_core.specs.declared.value.Value.TheVariants as value
-use Rattle.term_core.specs.Values.{same_value}
 use Rattle.murphi_typed.specs.declared.types.Simple.{Simple}
 use Rattle.murphi_typed.specs.declared.types.AnyType as t
 use Rattle.murphi_typed.specs.declared.types.AnyType.{AnyType, Row_of-Field, end_of-Field, more_of-Field}
 use Rattle.murphi_typed.specs.declared.types.Kind.{Kind}
-use Rattle.murphi_typed.specs.declared.protocol.Variable.{Variable}
-use Rattle.murphi_typed.specs.declared.protocol.Typed.{Typed}
 use Rattle.murphi_typed.specs.Forms.{ArrayForm}
-use Rattle.murphi_typed.specs.Values.{may_hold}
-use Rattle.murphi_typed.specs.Families.{Name, Path, Step, Into, Over, Way, one_more, ways, row_ways, path_of, axes_of, choices, Cell, cells_on, cells_from, cells, leaf_at, row_leaf}
-use Rattle.murphi_typed.specs.Store.{Owner, Global, Local, Formal, same_owner, Cells}
-use Rattle.murphi_typed.specs.Steps.{State, same_list, is_cell, listed, cells_of, value_in, state_of}
-use Rattle.murphi_typed.specs.WellTyped.{is_simple_type, is_type, are_fields, row_field, are_variables, variable_type}
-use Rattle.murphi_typed.specs.Keeping.{Declared, AreKept, globals_of, IsState}
-use Rattle.murphi_typed.proofs.TestLemmas.{owners_true, names_true, values_true, lists_true}
+use Rattle.murphi_typed.specs.Families.{Name, Path, Into, Over, Way, one_more, ways, row_ways, path_of, leaf_at, row_leaf}
+use Rattle.murphi_typed.specs.WellTyped.{is_simple_type, is_type, are_fields, row_field}
+use Rattle.murphi_typed.proofs.TestLemmas.{names_true}
 use Rattle.murphi_typed.proofs.LeafLemmas.{some_same, not_some}
 
 -- a fact of each item of a list
@@ -85,6 +74,7 @@ row_path_leaf fields (name ∷ path) = row_leaf fields name path
 
 mutual
   unfolding ways leaf_at is_type row_path_leaf
+
   pub ways_lead : (kinds : List Kind) (type : AnyType) → is_type kinds type ≡ true → Each (Leads type) (ways type)
   ways_lead kinds (t.Simple type) fine = (refl, tt)
   ways_lead kinds (t.Record' _ fields) fine = each_other (LeadsIn fields) (Leads (t.Record' _ fields)) (row_ways fields) (λ way leads. through way leads) (row_leads kinds fields fine)

@@ -1,11 +1,10 @@
 -- The routines of a text keep every cell within its type: a routine calls only those before it.
-use Rattle.std.proofs.Common.{◌≡◌, ℕ, zero, suc, ◌<◌, Bool, true, false, not, ◌&&◌, List, [], ◌∷◌, ◌++◌, reverse, length, Option, None, Some, refl, sym, ap, ◌∙◌, subst, arith, append_assoc, append-nil}
+use Rattle.std.proofs.Common.{◌≡◌, ℕ, zero, suc, Bool, true, false, ◌&&◌, List, [], ◌∷◌, ◌++◌, reverse, length, Option, None, Some, refl, sym, ap, ◌∙◌, subst, arith, append_assoc, append-nil}
 use Rattle.std.specs.Prelude.{nat_eq, if◌then◌else◌, slice_get}
 use Rattle.std.specs.List.{list_all}
 use Rattle.std.specs.Option.{option_map_or}
 use Rattle.std.proofs.lemmas.Bool.{and_parts, eqb-true, eqb-false}
 use Rattle.std.proofs.lemmas.List.{reverse-append, reverse-reverse, length-reverse}
-use Rattle.term_core.specs.declared.value.Value.{Value}
 use Rattle.murphi_ast.specs.declared.token.Span.{Span}
 use Rattle.murphi_typed.specs.declared.types.Simple.{Simple}
 use Rattle.murphi_typed.specs.declared.protocol.Formal.{Formal as DeclaredFormal}
@@ -13,9 +12,9 @@ use Rattle.murphi_typed.specs.declared.protocol.Routine.{Routine}
 use Rattle.murphi_typed.specs.declared.protocol.Typed.{Typed}
 use Rattle.murphi_typed.specs.Values.{is_value}
 use Rattle.murphi_typed.specs.Store.{Cells}
-use Rattle.murphi_typed.specs.Outcome.{Outcome, Got, Fault, given}
-use Rattle.murphi_typed.specs.Expressions.{Given, Scene, Left, Calls}
-use Rattle.murphi_typed.specs.Execution.{Ending, Next, Returned, cells_after, run, formals_fit, entered, called_scene, ended, call_of, calls_of, routine_calls}
+use Rattle.murphi_typed.specs.Outcome.{Got, Fault, given}
+use Rattle.murphi_typed.specs.Expressions.{Given, Scene, Calls}
+use Rattle.murphi_typed.specs.Execution.{Ending, Next, Returned, run, formals_fit, entered, called_scene, ended, call_of, calls_of, routine_calls}
 use Rattle.murphi_typed.specs.WellTyped.{is_type, is_simple_type, formal_allowed, are_variables, stmt_fits, routine_scope, routine_fits, routines_fit}
 use Rattle.murphi_typed.specs.Keeping.{Declared, AreKept}
 use Rattle.murphi_typed.proofs.LeafLemmas.{some_same, not_some}
@@ -45,8 +44,10 @@ call_kept T earlier calls keeps r fine types scene at gs cells shallow has fit k
   where
     inner : Declared
     inner = inner_types (suc scene.depth) r.formals r.locals types
+
     back : (ending : Ending) → EndingKept scene.nodes inner ending → EndingKept scene.nodes types ending
     back ending after owner T' declared = after owner T' (widen scene.depth r.formals r.locals types shallow owner T' declared)
+
     body : formals_fit scene.nodes r.formals gs ≡ true → IfGot (EndingKept scene.nodes inner) (run calls (called_scene scene gs) (entered (suc scene.depth) gs cells) r.body)
     body tested =
         let (formals, rest) = and_parts (list_all (λ (f : DeclaredFormal). is_type T.kinds f.of && formal_allowed r.result f) r.formals) (option_map_or (is_simple_type T.kinds) r.result true && (are_variables T.kinds r.locals && stmt_fits (routine_scope T earlier r) r.body)) fine in
@@ -56,6 +57,7 @@ call_kept T earlier calls keeps r fine types scene at gs cells shallow has fit k
         (inner_fits types T.globals r.formals r.locals scene gs (routine_scope T earlier r) shallow has fit refl refl refl)
         (inner_shallow scene.depth r.formals r.locals types shallow) has keeps
         (entered_kept scene.nodes (suc scene.depth) r.formals r.locals types gs cells fit tested kept) fits
+
     go : (b : Bool) → formals_fit scene.nodes r.formals gs ≡ b → IfGot (LeftKept scene.nodes types) (if b then given (run calls (called_scene scene gs) (entered (suc scene.depth) gs cells) r.body) (ended r.result scene at) else Fault at)
     go true tested = if_given (EndingKept scene.nodes inner) (LeftKept scene.nodes types) (run calls (called_scene scene gs) (entered (suc scene.depth) gs cells) r.body) (ended r.result scene at) (body tested) (λ ending after. ended_kept types r.result scene at ending (back ending after))
     go false tested = tt
@@ -73,7 +75,7 @@ get_before [] x r (suc k) e other = absurd (not_some e)
 get_before (y ∷ xs) x r zero e other = e
 get_before (y ∷ xs) x r (suc k) e other = get_before xs x r k e (λ same. other (ap suc same))
 
-reversed : {A : Type 0} (x : A) (xs : List A) → reverse (x ∷ xs) ≡ reverse xs ++ x ∷ []
+pub reversed : {A : Type 0} (x : A) (xs : List A) → reverse (x ∷ xs) ≡ reverse xs ++ x ∷ []
 reversed x xs = reverse-append (x ∷ []) xs
 
 latest_kept : (T : Typed) (latest : List Routine) → LatestFit T latest → CallsKeep T.globals (reverse latest) (calls_of latest)

@@ -1,37 +1,32 @@
 -- Starts and steps keep the cells and what each may hold.
-use Rattle.std.proofs.Common.{◌≡◌, ℕ, zero, suc, ◌+◌, ◌<◌, Bool, true, false, not, ◌&&◌, List, [], ◌∷◌, ◌++◌, map, length, Option, None, Some, refl, sym, ap, ◌∙◌, subst, arith}
-use Rattle.std.specs.Prelude.{nat_eq, nat_lt, if◌then◌else◌, slice_get, IsTrue, option_map}
+use Rattle.std.proofs.Common.{◌≡◌, ℕ, zero, suc, ◌+◌, ◌<◌, Bool, true, false, ◌&&◌, List, [], ◌∷◌, Option, None, Some, refl, sym, ap, ◌∙◌, subst, arith}
+use Rattle.std.specs.Prelude.{nat_eq, if◌then◌else◌, slice_get, IsTrue, option_map}
 use Rattle.std.specs.List.{flat_map, list_all}
 use Rattle.std.specs.Str.{bytes_eq}
 use Rattle.std.proofs.lemmas.Bool.{and_parts, eqb-true, ltb-true}
 use Rattle.std.proofs.lemmas.Option.{slice_get-map}
 use Rattle.std.proofs.lemmas.List.{length-map}
 use Rattle.term_core.specs.declared.value.Value.{Value}
-use Rattle.term_core.specs.declared.value.Value.TheVariants as value
-use Rattle.term_core.specs.Values.{truth, same_value}
-use Rattle.murphi_typed.specs.declared.types.Simple.{Simple}
+use Rattle.term_core.specs.Values.{same_value}
 use Rattle.murphi_typed.specs.declared.types.AnyType.{AnyType}
 use Rattle.murphi_typed.specs.declared.types.Kind.{Kind}
-use Rattle.murphi_typed.specs.declared.expr.Root.{Root}
 use Rattle.murphi_typed.specs.declared.expr.Root.TheVariants as root
 use Rattle.murphi_typed.specs.declared.stmt.Stmt.{Stmt}
 use Rattle.murphi_typed.specs.declared.protocol.Parameter.{Parameter}
 use Rattle.murphi_typed.specs.declared.protocol.Variable.{Variable}
-use Rattle.murphi_typed.specs.declared.protocol.Rule.{Rule}
-use Rattle.murphi_typed.specs.declared.protocol.Start.{Start}
 use Rattle.murphi_typed.specs.declared.protocol.Typed.{Typed}
 use Rattle.murphi_typed.specs.Values.{may_hold}
-use Rattle.murphi_typed.specs.Families.{Path, Way, ways, path_of, axes_of, choices, Cell, cells_on, cells_from, cells, leaf_at}
-use Rattle.murphi_typed.specs.Store.{Owner, Global, Local, Formal, same_owner, Cells, blank}
-use Rattle.murphi_typed.specs.Outcome.{Outcome, Got, Fault, given}
-use Rattle.murphi_typed.specs.Expressions.{Scene, whole}
-use Rattle.murphi_typed.specs.Execution.{Ending, cells_after, run}
-use Rattle.murphi_typed.specs.Steps.{State, same_list, is_cell, listed, cells_of, value_in, state_of, outermost, calls_in, state_after, started, guarded, fired, Starts, Steps, IsRun, IsReached}
-use Rattle.murphi_typed.specs.WellTyped.{Scope, is_type, variable_type, formal_type, are_variables, are_parameter_types, top_scope, stmt_fits, guard_fits, rule_fits, start_fits, routines_fit, formula_fits, is_well_typed}
-use Rattle.murphi_typed.specs.Keeping.{Declared, AreKept, IsState}
-use Rattle.murphi_typed.proofs.TestLemmas.{owners_true, names_true, values_true, lists_true}
+use Rattle.murphi_typed.specs.Families.{ways, path_of, axes_of, choices, Cell, cells_on, cells_from, cells, leaf_at}
+use Rattle.murphi_typed.specs.Store.{Global, Local, Formal, same_owner, Cells, blank}
+use Rattle.murphi_typed.specs.Outcome.{Got, given}
+use Rattle.murphi_typed.specs.Expressions.{whole}
+use Rattle.murphi_typed.specs.Execution.{cells_after, run}
+use Rattle.murphi_typed.specs.Steps.{State, same_list, is_cell, listed, cells_of, value_in, state_of, outermost, calls_in, state_after, guarded, Starts, Steps, IsRun, IsReached}
+use Rattle.murphi_typed.specs.WellTyped.{is_type, variable_type, are_variables, are_parameter_types, top_scope, stmt_fits, guard_fits, rule_fits, start_fits, routines_fit, formula_fits, is_well_typed}
+use Rattle.murphi_typed.specs.Keeping.{Declared, AreKept, IsState, SceneFits}
+use Rattle.murphi_typed.proofs.TestLemmas.{owners_true, names_true, lists_true}
 use Rattle.murphi_typed.proofs.LeafLemmas.{some_same, not_some}
-use Rattle.murphi_typed.proofs.KeepLemmas.{IfGot, if_given, if_after, SceneFits}
+use Rattle.murphi_typed.proofs.KeepLemmas.{IfGot, if_given, if_after}
 use Rattle.murphi_typed.proofs.InnerLemmas.{IsShallow, HasGlobals}
 use Rattle.murphi_typed.proofs.BodyLemmas.{EndingKept, run_kept}
 use Rattle.murphi_typed.proofs.RoutineLemmas.{routines_kept}
@@ -50,11 +45,11 @@ cells_fine N kinds all first (v ∷ vs) fine there =
     (each_flat (IsFine all) (cells_on N first) (ways v.of) (each_other (Leads v.of) (λ way. Each (IsFine all) (cells_on N first way)) (ways v.of) (λ way leads. each_map (IsFine all) (λ at. record { global = first; way = way; at = at }) (choices N (axes_of way.steps)) (each_all _ (choices N (axes_of way.steps)) (λ at. (v.of, ap variable_type here, leads)))) (ways_lead kinds v.of one)))
     (cells_fine N kinds all (suc first) vs rest (λ j. ap (slice_get all) (omega arith) ∙ there (suc j)))
 
-all_fine : (N : ℕ) (T : Typed) → are_variables T.kinds T.globals ≡ true → Each (IsFine T.globals) (cells N T)
+pub all_fine : (N : ℕ) (T : Typed) → are_variables T.kinds T.globals ≡ true → Each (IsFine T.globals) (cells N T)
 all_fine N T fine = cells_fine N T.kinds T.globals 0 T.globals fine (λ j. ap (slice_get T.globals) (omega arith))
 
 -- the values of a state are within the types of the cells
-listed_kept : (N : ℕ) (globals : List Variable) (types : Declared) → HasGlobals types globals → (cs : List Cell) (vs : State) → Each (IsFine globals) cs → ((k : ℕ) (c : Cell) (v : Value) → slice_get cs k ≡ Some c → slice_get vs k ≡ Some v → may_hold N c.way.leaf v ≡ true) → AreKept N types (listed cs vs)
+pub listed_kept : (N : ℕ) (globals : List Variable) (types : Declared) → HasGlobals types globals → (cs : List Cell) (vs : State) → Each (IsFine globals) cs → ((k : ℕ) (c : Cell) (v : Value) → slice_get cs k ≡ Some c → slice_get vs k ≡ Some v → may_hold N c.way.leaf v ≡ true) → AreKept N types (listed cs vs)
 listed_kept N globals types has [] vs fine may owner type declared path leaf leads at = refl
 listed_kept N globals types has (c ∷ cs) [] fine may owner type declared path leaf leads at = refl
 listed_kept N globals types has (c ∷ cs) (v ∷ vs) fine may owner type declared path leaf leads at = go (is_cell c owner path at) refl (listed_kept N globals types has cs vs fine.1 (λ k. may (suc k)) owner type declared path leaf leads at)
@@ -73,12 +68,12 @@ blank_kept : (N : ℕ) (types : Declared) → AreKept N types blank
 blank_kept N types owner type declared path leaf leads at = refl
 
 -- the variables of the body of a rule or of a start state
-top_types : Typed → List Variable → Declared
+pub top_types : Typed → List Variable → Declared
 top_types T locals (Global k) = variable_type (slice_get T.globals k)
 top_types T locals (Local of k) = if nat_eq of 0 then variable_type (slice_get locals k) else None
 top_types T locals (Formal of k) = None
 
-top_has : (T : Typed) (locals : List Variable) → HasGlobals (top_types T locals) T.globals
+pub top_has : (T : Typed) (locals : List Variable) → HasGlobals (top_types T locals) T.globals
 unfolding top_types
 top_has T locals k = refl
 
@@ -93,7 +88,7 @@ top_shallow T locals of k deep = (go (nat_eq of 0) refl, refl)
         let more : 0 < of = ltb-true 0 of deep in
         absurd (omega arith)
 
-top_fits : (N : ℕ) (T : Typed) (locals : List Variable) (params : List Parameter) (p : List Value) → SceneFits (top_types T locals) (top_scope T locals params) (outermost N p)
+pub top_fits : (N : ℕ) (T : Typed) (locals : List Variable) (params : List Parameter) (p : List Value) → SceneFits (top_types T locals) (top_scope T locals params) (outermost N p)
 unfolding top_types
 top_fits N T locals params p (root.Global k) U e = (whole (Global k), refl, (U, e, λ path. refl))
 top_fits N T locals params p (root.Local k) U e = (whole (Local 0 k), refl, (U, e, λ path. refl))
@@ -111,7 +106,7 @@ state_is N T locals now fine kept = record { count = length-map (cells N T) (val
         let (type, declared, leads) = each_at (IsFine T.globals) (cells N T) k c (all_fine N T fine) here in
         ap (may_hold N c.way.leaf) (sym value_is) ∙ kept (Global c.global) type declared (path_of c.way.steps) c.way.leaf leads c.at
 
-all_at : {A : Type 0} (test : A → Bool) (xs : List A) (k : ℕ) (x : A) → list_all test xs ≡ true → slice_get xs k ≡ Some x → test x ≡ true
+pub all_at : {A : Type 0} (test : A → Bool) (xs : List A) (k : ℕ) (x : A) → list_all test xs ≡ true → slice_get xs k ≡ Some x → test x ≡ true
 all_at test [] k x e there = absurd (not_some there)
 all_at test (y ∷ xs) zero x e there = let (first, rest) = and_parts (test y) (list_all test xs) e in ap test (sym (some_same there)) ∙ first
 all_at test (y ∷ xs) (suc k) x e there = let (first, rest) = and_parts (test y) (list_all test xs) e in all_at test xs k x rest there

@@ -1,5 +1,5 @@
 -- What tests into truth values say.
-use Rattle.std.proofs.Common.{◌≡◌, ℕ, zero, suc, Bool, true, false, ◌&&◌, List, [], ◌∷◌, ◌++◌, Option, None, Some, refl, sym, ap, ◌∙◌, subst}
+use Rattle.std.proofs.Common.{◌≡◌, ℕ, Bool, true, false, List, [], ◌∷◌, ◌++◌, None, Some, refl, sym, ap, ◌∙◌}
 use Rattle.std.specs.Prelude.{nat_eq, ℤ, pos, negsuc, if◌then◌else◌}
 use Rattle.std.specs.Str.{bytes_eq}
 use Rattle.std.proofs.lemmas.Bool.{and_parts, eqb-true}
@@ -8,7 +8,6 @@ use Rattle.term_core.specs.declared.value.Value.TheVariants.{Undefined, Truth, N
 use Rattle.term_core.specs.Values.{same_value, same_truth, same_number}
 use Rattle.murphi_typed.specs.declared.types.Simple.{Simple}
 use Rattle.murphi_typed.specs.declared.types.Simple.TheVariants as simple
-use Rattle.murphi_typed.specs.Families.{Path}
 use Rattle.murphi_typed.specs.Store.{Owner, Global, Local, Formal, same_owner, beyond}
 use Rattle.murphi_typed.specs.Steps.{same_list}
 use Rattle.murphi_typed.specs.WellTyped.{same_simple}

@@ -60,42 +60,67 @@ cleared type path at = option_map_or cleared_value (leaf_at type path) value.Und
 -- whether one of the labels is the value; they are worked out in order, up to the first that is
 abbrev pub is_among : (Expr → Outcome Value) → Value → List Expr → Outcome Bool
 is_among worked v [] = Got false
-is_among worked v (label ∷ labels) = given (worked label) (λ w. if same_value v w then Got true else is_among worked v labels)
+is_among worked v (label ∷ labels) =
+    given (worked label) (λ w. if same_value v w then Got true else is_among worked v labels)
 
 unfoldable mutual
   -- what a statement does
   pub run : Calls → Scene → Cells → Stmt → Outcome Ending
   run calls scene cells (s.Block' _ body) = run_all calls scene cells body
-  run calls scene cells (s.Assign to into body) = given (place_of calls scene (at_of to) cells to) (λ p. given (value_of calls scene (at_of to) cells body) (λ v. given (stored scene.nodes (at_of to) into v) (with_value cells p)))
-  run calls scene cells (s.Copy to into from) = given (place_of calls scene (at_of to) cells to) (λ p. given (place_of calls scene (at_of to) cells from) (λ q. given (stored scene.nodes (at_of to) into (cell_at cells q)) (with_value cells p)))
-  run calls scene cells (s.CopyAll to from) = given (place_of calls scene (at_of to) cells to) (λ p. given (place_of calls scene (at_of to) cells from) (λ q. Got (Next (written cells p (contents_at cells q)))))
-  run calls scene cells (s.Call k args at) = given (arguments_of calls scene at cells args) (λ gs. given (calls k scene at gs cells) (λ left. Got (Next left.cells)))
-  run calls scene cells (s.If' _ arms _ otherwise at) = run_arms calls scene at cells arms (run_all calls scene cells otherwise)
-  run calls scene cells (s.Switch' on _ cases _ otherwise at) = given (value_of calls scene at cells on) (λ v. run_cases calls scene at cells v cases (run_all calls scene cells otherwise))
-  run calls scene cells (s.For' over _ body at) = turns (λ v cells. run_all calls (with_bound scene v) cells body) (values scene.nodes over) cells
-  run calls scene cells (s.Clear place type at) = given (place_of calls scene at cells place) (λ p. Got (Next (written cells p (cleared type))))
-  run calls scene cells (s.Undefine place at) = given (place_of calls scene at cells place) (λ p. Got (Next (written cells p (only value.Undefined))))
+  run calls scene cells (s.Assign to into body) =
+      given (place_of calls scene (at_of to) cells to)
+      (λ p. given (value_of calls scene (at_of to) cells body)
+      (λ v. given (stored scene.nodes (at_of to) into v) (with_value cells p)))
+  run calls scene cells (s.Copy to into from) =
+      given (place_of calls scene (at_of to) cells to)
+      (λ p. given (place_of calls scene (at_of to) cells from)
+      (λ q. given (stored scene.nodes (at_of to) into (cell_at cells q)) (with_value cells p)))
+  run calls scene cells (s.CopyAll to from) =
+      given (place_of calls scene (at_of to) cells to)
+      (λ p. given (place_of calls scene (at_of to) cells from)
+      (λ q. Got (Next (written cells p (contents_at cells q)))))
+  run calls scene cells (s.Call k args at) =
+      given (arguments_of calls scene at cells args)
+      (λ gs. given (calls k scene at gs cells) (λ left. Got (Next left.cells)))
+  run calls scene cells (s.If' _ arms _ otherwise at) =
+      run_arms calls scene at cells arms (run_all calls scene cells otherwise)
+  run calls scene cells (s.Switch' on _ cases _ otherwise at) =
+      given (value_of calls scene at cells on)
+      (λ v. run_cases calls scene at cells v cases (run_all calls scene cells otherwise))
+  run calls scene cells (s.For' over _ body at) =
+      turns (λ v cells. run_all calls (with_bound scene v) cells body) (values scene.nodes over) cells
+  run calls scene cells (s.Clear place type at) =
+      given (place_of calls scene at cells place) (λ p. Got (Next (written cells p (cleared type))))
+  run calls scene cells (s.Undefine place at) =
+      given (place_of calls scene at cells place) (λ p. Got (Next (written cells p (only value.Undefined))))
   run calls scene cells (s.Error at) = Fault at
-  run calls scene cells (s.Assert test at) = given (value_of calls scene at cells test) (λ v. if truth v then Got (Next cells) else Fault at)
+  run calls scene cells (s.Assert test at) =
+      given (value_of calls scene at cells test) (λ v. if truth v then Got (Next cells) else Fault at)
   run calls scene cells (s.PutText at) = Got (Next cells)
   run calls scene cells (s.Put shown at) = Got (Next cells)
   run calls scene cells (s.Leave at) = Got (Returned cells None)
-  run calls scene cells (s.Return body at) = given (value_of calls scene at cells body) (λ v. Got (Returned cells (Some v)))
+  run calls scene cells (s.Return body at) =
+      given (value_of calls scene at cells body) (λ v. Got (Returned cells (Some v)))
 
   -- what statements do in turn
   pub run_all : {n : _} → Calls → Scene → Cells → Row_of-Stmt n → Outcome Ending
   run_all calls scene cells end_of-Stmt = Got (Next cells)
-  run_all calls scene cells (more_of-Stmt first rest) = given (run calls scene cells first) (λ ending. then_on ending (λ next. run_all calls scene next rest))
+  run_all calls scene cells (more_of-Stmt first rest) =
+      given (run calls scene cells first) (λ ending. then_on ending (λ next. run_all calls scene next rest))
 
   -- the statements of the first arm whose test is true, or else the others; no later test is worked out
   pub run_arms : {n : _} → Calls → Scene → Span → Cells → Row_of-Arm n → Outcome Ending → Outcome Ending
   run_arms calls scene at cells end_of-Arm otherwise = otherwise
-  run_arms calls scene at cells (more_of-Arm test _ body rest) otherwise = given (value_of calls scene at cells test) (λ v. if truth v then run_all calls scene cells body else run_arms calls scene at cells rest otherwise)
+  run_arms calls scene at cells (more_of-Arm test _ body rest) otherwise =
+      given (value_of calls scene at cells test)
+      (λ v. if truth v then run_all calls scene cells body else run_arms calls scene at cells rest otherwise)
 
   -- the statements of the first case that has the value among its labels, or else the others
   pub run_cases : {n : _} → Calls → Scene → Span → Cells → Value → Row_of-Case n → Outcome Ending → Outcome Ending
   run_cases calls scene at cells v end_of-Case otherwise = otherwise
-  run_cases calls scene at cells v (more_of-Case labels _ body rest) otherwise = given (is_among (value_of calls scene at cells) v labels) (λ found. if found then run_all calls scene cells body else run_cases calls scene at cells v rest otherwise)
+  run_cases calls scene at cells v (more_of-Case labels _ body rest) otherwise =
+      given (is_among (value_of calls scene at cells) v labels)
+      (λ found. if found then run_all calls scene cells body else run_cases calls scene at cells v rest otherwise)
 
 -- the type of a formal, where it is simple
 abbrev pub simple_type : AnyType → Option Simple
@@ -135,18 +160,24 @@ called_scene scene gs = record { nodes = scene.nodes; depth = suc scene.depth; b
 -- faults at the place of the caller.
 abbrev pub ended : Option Simple → Scene → Span → Ending → Outcome Left
 ended None scene at ending = Got (record { cells = cells_after ending; result = None })
-ended (Some type) scene at (Returned cells (Some v)) = if is_value scene.nodes type v then Got (record { cells = cells; result = Some v }) else Fault at
+ended (Some type) scene at (Returned cells (Some v)) =
+    if is_value scene.nodes type v then Got (record { cells = cells; result = Some v }) else Fault at
 ended (Some type) scene at _ = Fault at
 
 -- what calling one routine does, where it is known what the routines do that it calls
 abbrev pub call_of : Calls → Routine → Scene → Span → List Given → Cells → Outcome Left
-call_of calls r scene at gs cells = if formals_fit scene.nodes r.formals gs then given (run calls (called_scene scene gs) (entered (suc scene.depth) gs cells) r.body) (ended r.result scene at) else Fault at
+call_of calls r scene at gs cells =
+    if formals_fit scene.nodes r.formals gs
+    then given (run calls (called_scene scene gs) (entered (suc scene.depth) gs cells) r.body)
+    (ended r.result scene at) else Fault at
 
 -- what calling the routines of a list does, the last of the text first: each calls only those after it in the
 -- list, which stand before it in the text. There is no call of any other number.
 abbrev pub calls_of : List Routine → Calls
 calls_of [] k scene at gs cells = Fault at
-calls_of (r ∷ earlier) k scene at gs cells = if nat_eq k (length earlier) then call_of (calls_of earlier) r scene at gs cells else calls_of earlier k scene at gs cells
+calls_of (r ∷ earlier) k scene at gs cells =
+    if nat_eq k (length earlier) then call_of (calls_of earlier) r scene at gs cells
+    else calls_of earlier k scene at gs cells
 
 -- what calling the routines of a text does
 abbrev pub routine_calls : List Routine → Calls

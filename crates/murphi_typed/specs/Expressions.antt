@@ -98,7 +98,10 @@ defined at v = Got v
 -- every instance of a quantifier is worked out, so it faults where one of them does
 abbrev pub over_all : Bool → (Value → Outcome Value) → List Value → Outcome Bool
 over_all all instance [] = Got all
-over_all all instance (v ∷ vs) = given (instance v) (λ first. given (over_all all instance vs) (λ rest. Got (if all then truth first && rest else truth first || rest)))
+over_all all instance (v ∷ vs) =
+    given (instance v)
+    (λ first. given (over_all all instance vs)
+    (λ rest. Got (if all then truth first && rest else truth first || rest)))
 
 -- the scene inside a quantifier or a `for`, where one more variable is bound
 abbrev pub with_bound : Scene → Value → Scene
@@ -138,31 +141,55 @@ unfoldable mutual
   pub value_of : Calls → Scene → Span → Cells → Expr → Outcome Value
   value_of calls scene at cells (x.Known v) = Got v
   value_of calls scene at cells (x.Bound k) = or_fault at (slice_get scene.bound k)
-  value_of calls scene at cells (x.Read place) = given (place_of calls scene at cells place) (λ p. defined at (cell_at cells p))
-  value_of calls scene at cells (x.Call k args _) = given (arguments_of calls scene at cells args) (λ args. given (calls k scene at args cells) (λ left. or_fault at left.result))
-  value_of calls scene at cells (NotForm body) = given (value_of calls scene at cells body) (λ v. Got (value.Truth (not (truth v))))
-  value_of calls scene at cells (MinusForm body) = given (value_of calls scene at cells body) (calculated at arith.Subtract (value.Number (pos 0)))
-  value_of calls scene at cells (x.Chain' _ (more_of-Expr first end_of-Expr) _ rest) = given (value_of calls scene at cells first) (λ v. chain_value calls scene at cells v rest)
-  value_of calls scene at cells (CompareForm op left right) = given (value_of calls scene at cells left) (λ v. given (value_of calls scene at cells right) (λ w. Got (value.Truth (compared op v w))))
-  value_of calls scene at cells (ImpliesForm left right) = given (value_of calls scene at cells left) (λ v. if truth v then given (value_of calls scene at cells right) (λ w. Got (as_truth w)) else Got (value.Truth true))
-  value_of calls scene at cells (ChoiceForm test then' else') = given (value_of calls scene at cells test) (λ v. if truth v then value_of calls scene at cells then' else value_of calls scene at cells else')
-  value_of calls scene at cells (QuantifiedForm all over body) = given (over_all all (λ v. value_of calls (with_bound scene v) at cells body) (values scene.nodes over)) (λ b. Got (value.Truth b))
-  value_of calls scene at cells (x.IsUndefined place) = given (place_of calls scene at cells place) (λ p. Got (value.Truth (same_value (cell_at cells p) value.Undefined)))
+  value_of calls scene at cells (x.Read place) =
+      given (place_of calls scene at cells place) (λ p. defined at (cell_at cells p))
+  value_of calls scene at cells (x.Call k args _) =
+      given (arguments_of calls scene at cells args)
+      (λ args. given (calls k scene at args cells) (λ left. or_fault at left.result))
+  value_of calls scene at cells (NotForm body) =
+      given (value_of calls scene at cells body) (λ v. Got (value.Truth (not (truth v))))
+  value_of calls scene at cells (MinusForm body) =
+      given (value_of calls scene at cells body) (calculated at arith.Subtract (value.Number (pos 0)))
+  value_of calls scene at cells (x.Chain' _ (more_of-Expr first end_of-Expr) _ rest) =
+      given (value_of calls scene at cells first) (λ v. chain_value calls scene at cells v rest)
+  value_of calls scene at cells (CompareForm op left right) =
+      given (value_of calls scene at cells left)
+      (λ v. given (value_of calls scene at cells right) (λ w. Got (value.Truth (compared op v w))))
+  value_of calls scene at cells (ImpliesForm left right) =
+      given (value_of calls scene at cells left) (λ v. if truth v then given (value_of calls scene at cells right)
+      (λ w. Got (as_truth w)) else Got (value.Truth true))
+  value_of calls scene at cells (ChoiceForm test then' else') =
+      given (value_of calls scene at cells test)
+      (λ v. if truth v then value_of calls scene at cells then' else value_of calls scene at cells else')
+  value_of calls scene at cells (QuantifiedForm all over body) =
+      given (over_all all (λ v. value_of calls (with_bound scene v) at cells body) (values scene.nodes over))
+      (λ b. Got (value.Truth b))
+  value_of calls scene at cells (x.IsUndefined place) =
+      given (place_of calls scene at cells place)
+      (λ p. Got (value.Truth (same_value (cell_at cells p) value.Undefined)))
 
   -- the value of a chain, given that of the operands before the row
   pub chain_value : {n : _} → Calls → Scene → Span → Cells → Value → Row_of-Link n → Outcome Value
   chain_value calls scene at cells left end_of-Link = Got left
-  chain_value calls scene at cells left (more_of-Link op operand rest) = given (joined at op left (value_of calls scene at cells operand)) (λ v. chain_value calls scene at cells v rest)
+  chain_value calls scene at cells left (more_of-Link op operand rest) =
+      given (joined at op left (value_of calls scene at cells operand))
+      (λ v. chain_value calls scene at cells v rest)
 
   -- the place of a designator
   pub place_of : Calls → Scene → Span → Cells → Designator → Outcome Place
-  place_of calls scene at cells (d.Of' root _ selectors _) = given (or_fault at (root_place scene root)) (λ p. given (indices_of calls scene at cells selectors) (λ indices. Got (under p (row_path selectors) indices)))
+  place_of calls scene at cells (d.Of' root _ selectors _) =
+      given (or_fault at (root_place scene root))
+      (λ p. given (indices_of calls scene at cells selectors)
+      (λ indices. Got (under p (row_path selectors) indices)))
 
   -- the values of the indices of a designator, each of which has to be in its index type
   pub indices_of : {n : _} → Calls → Scene → Span → Cells → Row_of-Selector n → Outcome (List Value)
   indices_of calls scene at cells end_of-Selector = Got []
   indices_of calls scene at cells (more_of-Selector (select.Field name) rest) = indices_of calls scene at cells rest
-  indices_of calls scene at cells (more_of-Selector (select.Index over index) rest) = given (value_of calls scene at cells index) (λ v. given (fitting (is_value scene.nodes over v) at v) (λ v. given (indices_of calls scene at cells rest) (λ vs. Got (v ∷ vs))))
+  indices_of calls scene at cells (more_of-Selector (select.Index over index) rest) =
+      given (value_of calls scene at cells index)
+      (λ v. given (fitting (is_value scene.nodes over v) at v)
+      (λ v. given (indices_of calls scene at cells rest) (λ vs. Got (v ∷ vs))))
 
   -- what a call gives to the formals
   pub arguments_of : Calls → Scene → Span → Cells → Arguments → Outcome (List Given)
@@ -170,10 +197,16 @@ unfoldable mutual
 
   pub row_arguments : {n : _} → Calls → Scene → Span → Cells → Row_of-Argument n → Outcome (List Given)
   row_arguments calls scene at cells end_of-Argument = Got []
-  row_arguments calls scene at cells (more_of-Argument first rest) = given (argument_of calls scene at cells first) (λ g. given (row_arguments calls scene at cells rest) (λ gs. Got (g ∷ gs)))
+  row_arguments calls scene at cells (more_of-Argument first rest) =
+      given (argument_of calls scene at cells first)
+      (λ g. given (row_arguments calls scene at cells rest) (λ gs. Got (g ∷ gs)))
 
   pub argument_of : Calls → Scene → Span → Cells → argument.Argument → Outcome Given
-  argument_of calls scene at cells (argument.Copy place) = given (place_of calls scene at cells place) (λ p. Got (Filled (only (cell_at cells p))))
-  argument_of calls scene at cells (argument.CopyAll place) = given (place_of calls scene at cells place) (λ p. Got (Filled (contents_at cells p)))
-  argument_of calls scene at cells (argument.Value body) = given (value_of calls scene at cells body) (λ v. Got (Filled (only v)))
-  argument_of calls scene at cells (argument.Place place) = given (place_of calls scene at cells place) (λ p. Got (Standing p))
+  argument_of calls scene at cells (argument.Copy place) =
+      given (place_of calls scene at cells place) (λ p. Got (Filled (only (cell_at cells p))))
+  argument_of calls scene at cells (argument.CopyAll place) =
+      given (place_of calls scene at cells place) (λ p. Got (Filled (contents_at cells p)))
+  argument_of calls scene at cells (argument.Value body) =
+      given (value_of calls scene at cells body) (λ v. Got (Filled (only v)))
+  argument_of calls scene at cells (argument.Place place) =
+      given (place_of calls scene at cells place) (λ p. Got (Standing p))

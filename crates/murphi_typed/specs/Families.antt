@@ -91,4 +91,5 @@ unfoldable mutual
 
   pub row_leaf : {n : _} → Row_of-Field n → Name → Path → Option Simple
   row_leaf end_of-Field name path = None
-  row_leaf (more_of-Field field type rest) name path = if bytes_eq field name then leaf_at type path else row_leaf rest name path
+  row_leaf (more_of-Field field type rest) name path =
+      if bytes_eq field name then leaf_at type path else row_leaf rest name path

@@ -24,7 +24,9 @@ ImpliesForm left right = x.Implies' tt (more_of-Expr left end_of-Expr) tt (more_
 
 -- if the test is true the second part, else the third
 pattern abbrev pub ChoiceForm : Expr → Expr → Expr → Expr
-ChoiceForm test then' else' = x.Choice' tt (more_of-Expr test end_of-Expr) tt (more_of-Expr then' end_of-Expr) tt (more_of-Expr else' end_of-Expr)
+ChoiceForm test then' else' =
+    x.Choice' tt (more_of-Expr test end_of-Expr) tt (more_of-Expr then' end_of-Expr) tt
+    (more_of-Expr else' end_of-Expr)
 
 -- for all values of a type, or for one of them where `all` is false
 pattern abbrev pub QuantifiedForm : Bool → Simple → Expr → Expr

@@ -1,15 +1,20 @@
 -- What a state is, and what a body has to keep: each cell of a declared variable is undefined or has a value of
 -- its type.
-use Rattle.std.specs.Prelude.{◌≡◌, ℕ, suc, ◌<◌, Bool, true, false, List, [], ◌∷◌, ◌++◌, length, Option, None, Some, slice_get, IsTrue}
+use Rattle.std.specs.Prelude.{◌≡◌, ℕ, true, List, ◌++◌, length, Option, None, Some, slice_get, IsTrue}
 use Rattle.term_core.specs.declared.value.Value.{Value}
 use Rattle.murphi_typed.specs.declared.types.Simple.{Simple}
 use Rattle.murphi_typed.specs.declared.types.AnyType.{AnyType}
 use Rattle.murphi_typed.specs.declared.protocol.Typed.{Typed}
-use Rattle.murphi_typed.specs.Values.{may_hold}
-use Rattle.murphi_typed.specs.Families.{Path, Cell, cells, path_of, leaf_at}
-use Rattle.murphi_typed.specs.Store.{Owner, Global, Cells}
+use Rattle.murphi_typed.specs.Values.{may_hold, is_value}
+use Rattle.murphi_typed.specs.Families.{Path, Cell, cells, leaf_at}
+use Rattle.murphi_typed.specs.Store.{Owner, Global, Place, Cells}
 use Rattle.murphi_typed.specs.Steps.{State}
-use Rattle.murphi_typed.specs.WellTyped.{variable_type}
+use Rattle.murphi_typed.specs.WellTyped.{variable_type, Scope, root_type, is_type, is_simple_type}
+use Rattle.murphi_typed.specs.Expressions.{Scene, Calls, Left, Given, root_place}
+use Rattle.murphi_typed.specs.Outcome.{Got}
+use Rattle.murphi_ast.specs.declared.token.Span.{Span}
+use Rattle.murphi_typed.specs.declared.expr.Root.{Root}
+use Rattle.murphi_typed.specs.declared.protocol.Routine.{Routine}
 
 -- the type of each variable, of those that are declared
 abbrev pub Declared : Type 0
@@ -17,7 +22,9 @@ Declared = Owner → Option AnyType
 
 -- the cells of declared variables hold what their types allow, whatever the indices are
 abbrev pub AreKept : ℕ → Declared → Cells → Type 0
-AreKept N types now = (owner : Owner) (type : AnyType) → types owner ≡ Some type → (path : Path) (leaf : Simple) → leaf_at type path ≡ Some leaf → (at : List Value) → may_hold N leaf (now owner path at) ≡ true
+AreKept N types now =
+    (owner : Owner) (type : AnyType) → types owner ≡ Some type → (path : Path) (leaf : Simple)
+    → leaf_at type path ≡ Some leaf → (at : List Value) → may_hold N leaf (now owner path at) ≡ true
 
 -- the globals of a protocol
 abbrev pub globals_of : Typed → Declared
@@ -27,4 +34,35 @@ globals_of T _ = None
 -- a state has a value for each cell, each undefined or of the type of its cell
 pub record IsState (N : ℕ) (T : Typed) (s : State) : Type 0 where
   pub count : length s ≡ length (cells N T)
-  pub values : (k : ℕ) (c : Cell) (v : Value) → slice_get (cells N T) k ≡ Some c → slice_get s k ≡ Some v → IsTrue (may_hold N c.way.leaf v)
+  pub values : (k : ℕ) (c : Cell) (v : Value) → slice_get (cells N T) k ≡ Some c → slice_get s k ≡ Some v
+      → IsTrue (may_hold N c.way.leaf v)
+
+-- the cells under a place are those of a type
+abbrev pub HasType : Declared → Place → AnyType → Type 0
+HasType types p type =
+    (whole : AnyType) × (types p.owner ≡ Some whole)
+    × ((path : Path) → leaf_at whole (p.path ++ path) ≡ leaf_at type path)
+
+-- each variable of a scope stands for a place of its type
+abbrev pub SceneFits : Declared → Scope → Scene → Type 0
+SceneFits types scope scene =
+    (r : Root) (type : AnyType) → root_type scope r ≡ Some type
+    → (p : Place) × (root_place scene r ≡ Some p) × HasType types p type
+
+-- the types of the variables in scope are types of the protocol
+abbrev pub RootsFine : Scope → Type 0
+RootsFine scope = (r : Root) (type : AnyType) → root_type scope r ≡ Some type → is_type scope.kinds type ≡ true
+
+-- parameters and bound variables have values of their types
+abbrev pub BoundFits : Scope → Scene → Type 0
+BoundFits scope scene =
+    (k : ℕ) (type : Simple) (v : Value) → slice_get scope.bound k ≡ Some type → slice_get scene.bound k ≡ Some v
+    → (is_value scene.nodes type v ≡ true) × (is_simple_type scope.kinds type ≡ true)
+
+-- functions give values of their result types
+abbrev pub ResultsFit : Scope → Calls → Type 0
+ResultsFit scope calls =
+    (k : ℕ) (r : Routine) (type : Simple) → slice_get scope.routines k ≡ Some r → r.result ≡ Some type
+    → (is_simple_type scope.kinds type ≡ true)
+    × ((scene : Scene) (at : Span) (gs : List Given) (cells : Cells) (left : Left) (v : Value)
+    → calls k scene at gs cells ≡ Got left → left.result ≡ Some v → is_value scene.nodes type v ≡ true)

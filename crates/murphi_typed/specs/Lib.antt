@@ -9,8 +9,10 @@ pub mod Expressions
 pub mod Execution
 pub mod Steps
 pub mod Prefix
+pub mod PrefixLists
 pub mod WellTyped
 pub mod Keeping
+pub mod Laws
 pub mod Worked
 pub mod WorkedBodies
 pub mod WorkedSteps

@@ -32,7 +32,9 @@ is_node_text (b ∷ bs) = (nat_eq b 75 || nat_eq b 70) && is_number_text bs
 -- whether an enum name could be read as another value: `undefined`, `Other`, K or F followed by digits, or a
 -- name that ends in `_` followed by digits
 abbrev pub is_doubtful : List ℕ → Bool
-is_doubtful name = bytes_eq name (codes "undefined") || (bytes_eq name (codes "Other") || (is_node_text name || ends_in_number name))
+is_doubtful name =
+    bytes_eq name (codes "undefined")
+    || (bytes_eq name (codes "Other") || (is_node_text name || ends_in_number name))
 
 -- an enum name as it is printed: behind an apostrophe where it could be read as another value
 abbrev pub enum_text : List ℕ → List ℕ
@@ -66,4 +68,5 @@ way_text kinds (Over index ∷ steps) (v ∷ at) = (91 ∷ value_text kinds v) +
 
 -- the name of a cell: a designator
 abbrev pub cell_name : Typed → Cell → List ℕ
-cell_name T c = option_map_or (λ variable. variable.name) (slice_get T.globals c.global) [] ++ way_text T.kinds c.way.steps c.at
+cell_name T c =
+    option_map_or (λ variable. variable.name) (slice_get T.globals c.global) [] ++ way_text T.kinds c.way.steps c.at

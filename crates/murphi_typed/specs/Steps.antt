@@ -31,7 +31,9 @@ same_list same _ _ = false
 
 -- whether this is the cell
 abbrev pub is_cell : Cell → Owner → Path → List Value → Bool
-is_cell c owner path at = same_owner (Global c.global) owner && (same_list bytes_eq (path_of c.way.steps) path && same_list same_value c.at at)
+is_cell c owner path at =
+    same_owner (Global c.global) owner
+    && (same_list bytes_eq (path_of c.way.steps) path && same_list same_value c.at at)
 
 -- the values that a list gives to cells, one to each; anything else is undefined
 abbrev pub listed : List Cell → State → Cells
@@ -74,11 +76,15 @@ started N T a p = state_after N T (run (calls_in T) (outermost N p) blank a.body
 -- whether a guard is true; where none is written it is
 abbrev pub guarded : ℕ → Typed → Option Guard → List Value → State → Outcome Bool
 guarded N T None p s = Got true
-guarded N T (Some guard) p s = given (value_of (calls_in T) (outermost N p) guard.at (cells_of N T s) guard.test) (λ v. Got (truth v))
+guarded N T (Some guard) p s =
+    given (value_of (calls_in T) (outermost N p) guard.at (cells_of N T s) guard.test) (λ v. Got (truth v))
 
 -- what firing a rule leaves, or none where its guard is false
 abbrev pub fired : ℕ → Typed → Rule → List Value → State → Outcome (Option State)
-fired N T r p s = given (guarded N T r.guard p s) (λ enabled. if enabled then given (state_after N T (run (calls_in T) (outermost N p) (cells_of N T s) r.body)) (λ next. Got (Some next)) else Got None)
+fired N T r p s =
+    given (guarded N T r.guard p s)
+    (λ enabled. if enabled then given (state_after N T (run (calls_in T) (outermost N p) (cells_of N T s) r.body))
+    (λ next. Got (Some next)) else Got None)
 
 -- start state k with parameters p leaves the state t
 pub record Starts (N : ℕ) (T : Typed) (k : ℕ) (p : List Value) (t : State) : Type 0 where
@@ -133,7 +139,9 @@ no_place = record { line = 0; column = 0 }
 
 -- a formula holds in a state where its expression is true for all values of its parameters
 abbrev pub Holds : ℕ → Typed → State → TypedFormula → Type 0
-Holds N T s f = (p : List Value) → IsTrue (are_parameters N f.params p) → IsTrue (is_true (value_of (calls_in T) (outermost N p) no_place (cells_of N T s) f.body))
+Holds N T s f =
+    (p : List Value) → IsTrue (are_parameters N f.params p)
+    → IsTrue (is_true (value_of (calls_in T) (outermost N p) no_place (cells_of N T s) f.body))
 
 -- a protocol is safe with N nodes, as to its own invariants and some lemmas: no start state faults, and in
 -- every state that is reached no rule faults and every invariant and lemma holds

@@ -60,7 +60,9 @@ renewed new old _ _ = old
 
 -- the cells in which those under a place have new values
 abbrev pub written : Cells → Place → Contents → Cells
-written cells place new owner path at = if same_owner owner place.owner then renewed new (cells owner path at) (beyond bytes_eq place.path path) (beyond same_value place.at at) else cells owner path at
+written cells place new owner path at =
+    if same_owner owner place.owner then renewed new (cells owner path at) (beyond bytes_eq place.path path)
+    (beyond same_value place.at at) else cells owner path at
 
 -- one value, whatever the fields and indices are: that of a single cell
 abbrev pub only : Value → Contents

@@ -1,6 +1,6 @@
 -- Which typed trees are well typed: what every protocol that is typed keeps, and what the laws of the meaning
 -- ask for. It is a test, by cases on the tree.
-use Rattle.std.specs.Prelude.{ℕ, suc, ◌+◌, Bool, true, false, not, ◌&&◌, ◌||◌, nat_eq, nat_lt, nat_le, List, [], ◌∷◌, ◌++◌, map, take, length, ℤ, pos, negsuc, int_le, Option, None, Some, option_and_then, option_map, if◌then◌else◌, slice_get, is_some}
+use Rattle.std.specs.Prelude.{ℕ, Bool, true, false, not, ◌&&◌, nat_eq, nat_lt, nat_le, List, [], ◌∷◌, ◌++◌, map, length, pos, negsuc, int_le, Option, None, Some, option_and_then, option_map, if◌then◌else◌, slice_get, is_some, ◌-ℤ◌}
 use Rattle.std.specs.List.{list_all}
 use Rattle.std.specs.Option.{option_map_or}
 use Rattle.std.specs.Str.{bytes_eq}
@@ -39,6 +39,7 @@ use Rattle.murphi_typed.specs.declared.protocol.Start.{Start}
 use Rattle.murphi_typed.specs.declared.protocol.TypedFormula.{TypedFormula}
 use Rattle.murphi_typed.specs.declared.protocol.Typed.{Typed}
 use Rattle.murphi_typed.specs.Forms.{ArrayForm, NotForm, MinusForm, CompareForm, ImpliesForm, ChoiceForm, QuantifiedForm}
+use Rattle.murphi_typed.specs.Values.{numbers_within}
 use Rattle.murphi_typed.specs.Families.{Name}
 
 -- Types
@@ -74,9 +75,12 @@ is_scalarset _ count = false
 -- has 1 to 256 values
 abbrev pub is_simple_type : List Kind → Simple → Bool
 is_simple_type kinds simple.Truth = true
-is_simple_type kinds (simple.Range low high) = is_number low && (is_number high && int_le low high)
-is_simple_type kinds (simple.Listed kind count) = is_listed (slice_get kinds kind) count && (nat_lt 0 count && nat_le count 256)
-is_simple_type kinds (simple.Scalarset kind count) = is_scalarset (slice_get kinds kind) count && (nat_lt 0 count && nat_le count 256)
+is_simple_type kinds (simple.Range low high) =
+    is_number low && (is_number high && (int_le low high && nat_le (numbers_within (high -ℤ low)) 256))
+is_simple_type kinds (simple.Listed kind count) =
+    is_listed (slice_get kinds kind) count && (nat_lt 0 count && nat_le count 256)
+is_simple_type kinds (simple.Scalarset kind count) =
+    is_scalarset (slice_get kinds kind) count && (nat_lt 0 count && nat_le count 256)
 is_simple_type kinds simple.Node = true
 
 -- the type of a field of a record
@@ -93,7 +97,8 @@ unfoldable mutual
 
   pub are_fields : {n : _} → List Kind → Row_of-Field n → Bool
   are_fields kinds end_of-Field = true
-  are_fields kinds (more_of-Field name type rest) = is_type kinds type && (not (is_some (row_field rest name)) && are_fields kinds rest)
+  are_fields kinds (more_of-Field name type rest) =
+      is_type kinds type && (not (is_some (row_field rest name)) && are_fields kinds rest)
 
 unfoldable mutual
   -- each part of a type is one of the other's, under the same names
@@ -105,7 +110,8 @@ unfoldable mutual
 
   pub each_field : {n : _} → Row_of-Field n → (Name → Option AnyType) → Bool
   each_field end_of-Field field = true
-  each_field (more_of-Field name type rest) field = option_map_or (has_parts type) (field name) false && each_field rest field
+  each_field (more_of-Field name type rest) field =
+      option_map_or (has_parts type) (field name) false && each_field rest field
 
 -- two types are one: each has the parts of the other under the same names, in whatever order
 abbrev pub same_type : AnyType → AnyType → Bool
@@ -190,7 +196,8 @@ only_if false found = None
 
 -- the type of an enum name
 abbrev pub enum_type : ℕ → ℕ → Option Kind → Option Simple
-enum_type number index (Some (kind.Listed names)) = only_if (nat_lt index (length names)) (Some (simple.Listed number (length names)))
+enum_type number index (Some (kind.Listed names)) =
+    only_if (nat_lt index (length names)) (Some (simple.Listed number (length names)))
 enum_type number index _ = None
 
 abbrev pub known_type : List Kind → Value → Option Simple
@@ -208,8 +215,8 @@ operand_type _ = numbers
 
 -- the operands of a comparison: of one type, or numbers
 abbrev pub comparable : CompareOp → Option Simple → Option Simple → Bool
-comparable compare.Equal (Some left) right = is_of left right
-comparable compare.NotEqual (Some left) right = is_of left right
+comparable compare.Equal (Some left) right = option_map_or (same_simple left) right false
+comparable compare.NotEqual (Some left) right = option_map_or (same_simple left) right false
 comparable compare.Equal None right = false
 comparable compare.NotEqual None right = false
 comparable _ left right = is_of numbers left && is_of numbers right
@@ -232,7 +239,8 @@ given_compound (Some f) found = not f.by_place && (is_compound f.of && place_fit
 given_compound None found = false
 
 abbrev pub given_value : Option Formal → Option Simple → Bool
-given_value (Some f) found = not f.by_place && option_map_or (λ type. is_of type found) (simple_part (Some f.of)) false
+given_value (Some f) found =
+    not f.by_place && option_map_or (λ type. is_of type found) (simple_part (Some f.of)) false
 given_value None found = false
 
 abbrev pub first_of : {A : Type 0} → List A → Option A
@@ -249,20 +257,31 @@ unfoldable mutual
   type_of scope (x.Known v) = known_type scope.kinds v
   type_of scope (x.Bound k) = option_map widened (slice_get scope.bound k)
   type_of scope (x.Read place) = option_map widened (simple_part (place_type scope place))
-  type_of scope (x.Call k args at) = option_and_then (λ r. only_if (arguments_fit scope r.formals args) (option_map widened r.result)) (slice_get scope.routines k)
+  type_of scope (x.Call k args at) =
+      option_and_then (λ r. only_if (arguments_fit scope r.formals args) (option_map widened r.result))
+      (slice_get scope.routines k)
   type_of scope (NotForm body) = only_if (is_of simple.Truth (type_of scope body)) (Some simple.Truth)
   type_of scope (MinusForm body) = only_if (is_of numbers (type_of scope body)) (Some numbers)
   type_of scope (x.Chain' _ (more_of-Expr first end_of-Expr) _ rest) = chain_type scope (type_of scope first) rest
-  type_of scope (CompareForm op left right) = only_if (comparable op (type_of scope left) (type_of scope right)) (Some simple.Truth)
-  type_of scope (ImpliesForm left right) = only_if (is_of simple.Truth (type_of scope left) && is_of simple.Truth (type_of scope right)) (Some simple.Truth)
-  type_of scope (ChoiceForm test then' else') = only_if (is_of simple.Truth (type_of scope test) && comparable compare.Equal (type_of scope then') (type_of scope else')) (type_of scope then')
-  type_of scope (QuantifiedForm all over body) = only_if (is_simple_type scope.kinds over && is_of simple.Truth (type_of (binding scope over) body)) (Some simple.Truth)
+  type_of scope (CompareForm op left right) =
+      only_if (comparable op (type_of scope left) (type_of scope right)) (Some simple.Truth)
+  type_of scope (ImpliesForm left right) =
+      only_if (is_of simple.Truth (type_of scope left) && is_of simple.Truth (type_of scope right))
+      (Some simple.Truth)
+  type_of scope (ChoiceForm test then' else') =
+      only_if (is_of simple.Truth (type_of scope test) && comparable compare.Equal (type_of scope then')
+      (type_of scope else')) (type_of scope then')
+  type_of scope (QuantifiedForm all over body) =
+      only_if (is_simple_type scope.kinds over && is_of simple.Truth (type_of (binding scope over) body))
+      (Some simple.Truth)
   type_of scope (x.IsUndefined place) = only_if (is_some (simple_part (place_type scope place))) (Some simple.Truth)
 
   -- the type of a chain, given that of the operands before the row
   pub chain_type : {n : _} → Scope → Option Simple → Row_of-Link n → Option Simple
   chain_type scope before end_of-Link = before
-  chain_type scope before (more_of-Link op operand rest) = chain_type scope (only_if (is_of (operand_type op) before && is_of (operand_type op) (type_of scope operand)) (Some (operand_type op))) rest
+  chain_type scope before (more_of-Link op operand rest) =
+      chain_type scope (only_if (is_of (operand_type op) before && is_of (operand_type op) (type_of scope operand))
+      (Some (operand_type op))) rest
 
   -- the type of a designator
   pub place_type : Scope → Designator → Option AnyType
@@ -270,8 +289,10 @@ unfoldable mutual
 
   pub selected_type : {n : _} → Scope → Option AnyType → Row_of-Selector n → Option AnyType
   selected_type scope found end_of-Selector = found
-  selected_type scope found (more_of-Selector (select.Field name) rest) = selected_type scope (field_part found name) rest
-  selected_type scope found (more_of-Selector (select.Index over index) rest) = selected_type scope (only_if (is_of over (type_of scope index)) (item_part found over)) rest
+  selected_type scope found (more_of-Selector (select.Field name) rest) =
+      selected_type scope (field_part found name) rest
+  selected_type scope found (more_of-Selector (select.Index over index) rest) =
+      selected_type scope (only_if (is_of over (type_of scope index)) (item_part found over)) rest
 
   -- there is one argument for each formal, and it fits
   pub arguments_fit : Scope → List Formal → Arguments → Bool
@@ -280,13 +301,16 @@ unfoldable mutual
   pub row_fits : {n : _} → Scope → List Formal → Row_of-Argument n → Bool
   row_fits scope [] end_of-Argument = true
   row_fits scope (f ∷ fs) end_of-Argument = false
-  row_fits scope formals (more_of-Argument first rest) = argument_fits scope (first_of formals) first && row_fits scope (rest_of formals) rest
+  row_fits scope formals (more_of-Argument first rest) =
+      argument_fits scope (first_of formals) first && row_fits scope (rest_of formals) rest
 
   pub argument_fits : Scope → Option Formal → argument.Argument → Bool
-  argument_fits scope formal (argument.Copy place) = given_value formal (option_map widened (simple_part (place_type scope place)))
+  argument_fits scope formal (argument.Copy place) =
+      given_value formal (option_map widened (simple_part (place_type scope place)))
   argument_fits scope formal (argument.CopyAll place) = given_compound formal (place_type scope place)
   argument_fits scope formal (argument.Value body) = given_value formal (type_of scope body)
-  argument_fits scope formal (argument.Place place) = may_write scope (root_of place) && given_place formal (place_type scope place)
+  argument_fits scope formal (argument.Place place) =
+      may_write scope (root_of place) && given_place formal (place_type scope place)
 
 -- Statements
 
@@ -318,14 +342,23 @@ returns _ found = false
 unfoldable mutual
   pub stmt_fits : Scope → Stmt → Bool
   stmt_fits scope (s.Block' _ body) = body_fits scope body
-  stmt_fits scope (s.Assign to into body) = may_write scope (root_of to) && (is_cell_of into (place_type scope to) && is_of into (type_of scope body))
-  stmt_fits scope (s.Copy to into from) = may_write scope (root_of to) && (is_cell_of into (place_type scope to) && holds_values_of into (place_type scope from))
-  stmt_fits scope (s.CopyAll to from) = may_write scope (root_of to) && are_alike (place_type scope to) (place_type scope from)
-  stmt_fits scope (s.Call k args at) = not (is_function scope.exit) && option_map_or (λ r. not (is_some r.result) && arguments_fit scope r.formals args) (slice_get scope.routines k) false
+  stmt_fits scope (s.Assign to into body) =
+      may_write scope (root_of to) && (is_cell_of into (place_type scope to) && is_of into (type_of scope body))
+  stmt_fits scope (s.Copy to into from) =
+      may_write scope (root_of to)
+      && (is_cell_of into (place_type scope to) && holds_values_of into (place_type scope from))
+  stmt_fits scope (s.CopyAll to from) =
+      may_write scope (root_of to) && are_alike (place_type scope to) (place_type scope from)
+  stmt_fits scope (s.Call k args at) =
+      not (is_function scope.exit) && option_map_or
+      (λ r. not (is_some r.result) && arguments_fit scope r.formals args) (slice_get scope.routines k) false
   stmt_fits scope (s.If' _ arms _ otherwise at) = arms_fit scope arms && body_fits scope otherwise
-  stmt_fits scope (s.Switch' on _ cases _ otherwise at) = is_some (type_of scope on) && (cases_fit scope (type_of scope on) cases && body_fits scope otherwise)
+  stmt_fits scope (s.Switch' on _ cases _ otherwise at) =
+      is_some (type_of scope on) && (cases_fit scope (type_of scope on) cases && body_fits scope otherwise)
   stmt_fits scope (s.For' over _ body at) = is_simple_type scope.kinds over && body_fits (binding scope over) body
-  stmt_fits scope (s.Clear place type at) = may_write scope (root_of place) && (is_type scope.kinds type && option_map_or (same_type type) (place_type scope place) false)
+  stmt_fits scope (s.Clear place type at) =
+      may_write scope (root_of place)
+      && (is_type scope.kinds type && option_map_or (same_type type) (place_type scope place) false)
   stmt_fits scope (s.Undefine place at) = may_write scope (root_of place) && is_some (place_type scope place)
   stmt_fits scope (s.Error at) = true
   stmt_fits scope (s.Assert test at) = is_of simple.Truth (type_of scope test)
@@ -340,11 +373,13 @@ unfoldable mutual
 
   pub arms_fit : {n : _} → Scope → Row_of-Arm n → Bool
   arms_fit scope end_of-Arm = true
-  arms_fit scope (more_of-Arm test _ body rest) = is_of simple.Truth (type_of scope test) && (body_fits scope body && arms_fit scope rest)
+  arms_fit scope (more_of-Arm test _ body rest) =
+      is_of simple.Truth (type_of scope test) && (body_fits scope body && arms_fit scope rest)
 
   pub cases_fit : {n : _} → Scope → Option Simple → Row_of-Case n → Bool
   cases_fit scope on end_of-Case = true
-  cases_fit scope on (more_of-Case labels _ body rest) = labels_fit scope on labels && (body_fits scope body && cases_fit scope on rest)
+  cases_fit scope on (more_of-Case labels _ body rest) =
+      labels_fit scope on labels && (body_fits scope body && cases_fit scope on rest)
 
 -- Protocols
 
@@ -356,7 +391,17 @@ are_parameter_types kinds params = list_all (λ (p : Parameter). is_simple_type 
 
 -- the body of a rule or of a start state, or a formula
 abbrev pub top_scope : Typed → List Variable → List Parameter → Scope
-top_scope T locals params = record { kinds = T.kinds; globals = T.globals; routines = T.routines; formals = []; locals = locals; bound = map (λ (p : Parameter). p.over) params; exit = AtEnd }
+top_scope T locals params =
+    record {
+      kinds = T.kinds;
+      globals = T.globals;
+      routines = T.routines;
+      formals = [];
+      locals = locals;
+      bound = map
+          (λ (p : Parameter). p.over) params;
+      exit = AtEnd;
+    }
 
 abbrev pub exit_of : Option Simple → Exit
 exit_of None = ByReturn
@@ -364,14 +409,26 @@ exit_of (Some type) = WithValue type
 
 -- the body of a routine, which may call those before it
 abbrev pub routine_scope : Typed → List Routine → Routine → Scope
-routine_scope T earlier r = record { kinds = T.kinds; globals = T.globals; routines = earlier; formals = r.formals; locals = r.locals; bound = []; exit = exit_of r.result }
+routine_scope T earlier r =
+    record {
+      kinds = T.kinds;
+      globals = T.globals;
+      routines = earlier;
+      formals = r.formals;
+      locals = r.locals;
+      bound = [];
+      exit = exit_of r.result;
+    }
 
 -- a function has no `var` formals
 abbrev pub formal_allowed : Option Simple → Formal → Bool
 formal_allowed result f = not (is_some result && f.by_place)
 
 abbrev pub routine_fits : Typed → List Routine → Routine → Bool
-routine_fits T earlier r = list_all (λ (f : Formal). is_type T.kinds f.of && formal_allowed r.result f) r.formals && (option_map_or (is_simple_type T.kinds) r.result true && (are_variables T.kinds r.locals && stmt_fits (routine_scope T earlier r) r.body))
+routine_fits T earlier r =
+    list_all (λ (f : Formal). is_type T.kinds f.of && formal_allowed r.result f) r.formals
+    && (option_map_or (is_simple_type T.kinds) r.result true
+    && (are_variables T.kinds r.locals && stmt_fits (routine_scope T earlier r) r.body))
 
 abbrev pub routines_fit : Typed → List Routine → List Routine → Bool
 routines_fit T earlier [] = true
@@ -381,10 +438,15 @@ abbrev pub guard_fits : Scope → Option Guard → Bool
 guard_fits scope guard = option_map_or (λ (g : Guard). is_of simple.Truth (type_of scope g.test)) guard true
 
 abbrev pub rule_fits : Typed → Rule → Bool
-rule_fits T r = are_parameter_types T.kinds r.params && (are_variables T.kinds r.locals && (guard_fits (top_scope T r.locals r.params) r.guard && stmt_fits (top_scope T r.locals r.params) r.body))
+rule_fits T r =
+    are_parameter_types T.kinds r.params
+    && (are_variables T.kinds r.locals
+    && (guard_fits (top_scope T r.locals r.params) r.guard && stmt_fits (top_scope T r.locals r.params) r.body))
 
 abbrev pub start_fits : Typed → Start → Bool
-start_fits T a = are_parameter_types T.kinds a.params && (are_variables T.kinds a.locals && stmt_fits (top_scope T a.locals a.params) a.body)
+start_fits T a =
+    are_parameter_types T.kinds a.params
+    && (are_variables T.kinds a.locals && stmt_fits (top_scope T a.locals a.params) a.body)
 
 -- the kinds of a protocol, and then those that a lemma writes itself
 abbrev pub with_kinds : Typed → List Kind → Typed
@@ -392,11 +454,16 @@ with_kinds T more = record T { kinds = T.kinds ++ more }
 
 -- a formula of the protocol: an invariant, or a lemma with kinds of its own
 abbrev pub formula_fits : Typed → TypedFormula → Bool
-formula_fits T f = are_parameter_types T.kinds f.params && is_of simple.Truth (type_of (top_scope T [] f.params) f.body)
+formula_fits T f =
+    are_parameter_types T.kinds f.params && is_of simple.Truth (type_of (top_scope T [] f.params) f.body)
 
 abbrev pub lemma_fits : Typed → TypedFormula → Bool
 lemma_fits T f = formula_fits (with_kinds T f.kinds) f
 
 -- a typed protocol is well typed
 abbrev pub is_well_typed : Typed → Bool
-is_well_typed T = are_variables T.kinds T.globals && (routines_fit T [] T.routines && (list_all (start_fits T) T.starts && (list_all (rule_fits T) T.rules && list_all (formula_fits T) T.invariants)))
+is_well_typed T =
+    are_variables T.kinds T.globals
+    && (routines_fit T [] T.routines
+    && (list_all (start_fits T) T.starts
+    && (list_all (rule_fits T) T.rules && list_all (formula_fits T) T.invariants)))

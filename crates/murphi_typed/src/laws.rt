@@ -1,11 +1,6 @@
 //! What holds of the meaning of every typed protocol: laws, each on a function that does nothing.
 
-ghost use Rattle.std.specs.Prelude.{ℕ, List, IsTrue};
-ghost use Rattle.term_core.specs.declared.value.Value.{Value};
-ghost use Rattle.murphi_typed.specs.declared.protocol.Typed.{Typed};
-ghost use Rattle.murphi_typed.specs.Steps.{State, Starts, Steps, IsReached};
-ghost use Rattle.murphi_typed.specs.WellTyped.{is_well_typed};
-ghost use Rattle.murphi_typed.specs.Keeping.{IsState};
+ghost use Rattle.murphi_typed.specs.Laws.{StartsLeaveStates, StepsLeadToStates, ReachedAreStates, StatesHaveValues, ValuesFitInBodies, ValuesFitInStates};
 ghost use Rattle.murphi_typed.specs.Worked.{ExpressionsAreAsWorked, QuantifiersAreAsWorked, AssignmentsAreAsWorked};
 ghost use Rattle.murphi_typed.specs.WorkedBodies.{ChoicesAreAsWorked, CallsAreAsWorked};
 ghost use Rattle.murphi_typed.specs.WorkedSteps.{StepsAreAsWorked, CellsAreAsWorked, PrefixesAreAsWorked, TypesAreAsWorked};
@@ -26,7 +21,20 @@ pub fn worked_cases()
 /// In a well-typed protocol a start leaves a state, and a step leads from a state to a state: each has
 /// the same cells, and each cell is undefined or has a value of its type.
 pub fn steps_keep_the_cells()
-    ensures starts { (N : ℕ) (T : Typed) (k : ℕ) (p : List Value) (t : State) → IsTrue (is_well_typed T) → Starts N T k p t → IsState N T t }
-    ensures steps { (N : ℕ) (T : Typed) (s : State) (k : ℕ) (p : List Value) (t : State) → IsTrue (is_well_typed T) → IsState N T s → Steps N T s k p t → IsState N T t }
-    ensures reached { (N : ℕ) (T : Typed) (s : State) → IsTrue (is_well_typed T) → IsReached N T s → IsState N T s }
+    ensures starts { StartsLeaveStates }
+    ensures steps { StepsLeadToStates }
+    ensures reached { ReachedAreStates }
+{}
+
+/// The state that cells make up gives each cell of the list the value that it had: execution goes by
+/// variable, fields and indices, and states are lists in the printed order.
+pub fn states_have_the_values_of_their_cells()
+    ensures { StatesHaveValues }
+{}
+
+/// Where a well-typed expression has a value, it is one of its type: in any body that keeps to its
+/// types, and so in the guards and formulas of a well-typed protocol in every state.
+pub fn expressions_have_values_of_their_types()
+    ensures inner { ValuesFitInBodies }
+    ensures top { ValuesFitInStates }
 {}

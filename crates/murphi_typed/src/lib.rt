@@ -5,6 +5,7 @@
 
 pub mod expr;
 pub mod laws;
+pub mod prefix;
 pub mod protocol;
 pub mod stmt;
 pub mod types;
