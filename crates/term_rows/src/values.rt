@@ -524,20 +524,34 @@ const CELLS: [Value; 9] = [
     UNDEFINED,
 ];
 
-#[test]
-fn cells_stand_in_their_order(rt: HostRuntime) -> Result<(), Fail> {
-    let alloc = rt.alloc();
-    let mut state = sample(&rt, alloc, 2)?;
+fn check_cells(rt: &impl Abort, state: &mut NodeState) {
     for (family, at, value) in REFUSED {
-        assert!(rt; !put(&mut state, family, at, value));
+        assert!(rt; !put(state, family, at, value));
     }
     assert_eq!(rt; state.values(), CELLS.as_slice());
     assert_eq!(rt; state.value(M, &[1, 2]), TRUE);
     assert_eq!(rt; state.value(M, &[1, 3]), UNDEFINED);
-    let families = copy_families(alloc, state.families())?;
+}
+
+#[test]
+fn cells_stand_in_their_order(rt: HostRuntime) -> Result<(), Fail> {
+    let mut state = sample(&rt, rt.alloc(), 2)?;
+    check_cells(&rt, &mut state);
+    Ok(())
+}
+
+#[test]
+fn families_have_copies(rt: HostRuntime) -> Result<(), Fail> {
+    let state = sample(&rt, rt.alloc(), 2)?;
+    let families = copy_families(rt.alloc(), state.families())?;
     assert_eq!(rt; families.len(), 4);
-    let name = Text::make(alloc, b"Chan[].Cmd")?;
-    assert_eq!(rt; name.copy(alloc)?.bytes(), b"Chan[].Cmd".as_slice());
+    Ok(())
+}
+
+#[test]
+fn texts_have_copies(rt: HostRuntime) -> Result<(), Fail> {
+    let name = Text::make(rt.alloc(), b"Chan[].Cmd")?;
+    assert_eq!(rt; name.copy(rt.alloc())?.bytes(), b"Chan[].Cmd".as_slice());
     Ok(())
 }
 
