@@ -1,0 +1,32 @@
+-- The worked cases, each by computing it.
+use Rattle.std.specs.Prelude.{refl}
+use Rattle.murphi_typed.specs.Expressions.{value_of}
+use Rattle.murphi_typed.specs.WellTyped.{has_parts}
+use Rattle.murphi_types.specs.Places.{place_of, type_place_of}
+use Rattle.murphi_types.specs.Constants.{is_constant}
+use Rattle.murphi_types.specs.Typing.{found}
+use Rattle.murphi_types.specs.Worked.{ExpressionsAreAsWorked, DesignatorsAreAsWorked, CallsAreAsWorked, QuantifiersAreAsWorked, ConstantsAreAsWorked, TypesAreAsWorked}
+
+pub expressions : ExpressionsAreAsWorked
+unfolding found place_of
+expressions = (refl, refl, refl, refl, refl, refl, refl, refl, refl, refl, refl, refl, refl, refl)
+
+pub designators : DesignatorsAreAsWorked
+unfolding found place_of
+designators = (refl, refl, refl, refl, refl, refl, refl, refl, refl, refl, refl, refl, refl, refl, refl)
+
+pub calls : CallsAreAsWorked
+unfolding found place_of has_parts
+calls = (refl, refl, refl, refl, refl, refl, refl, refl, refl, refl)
+
+pub quantifiers : QuantifiersAreAsWorked
+unfolding found place_of type_place_of is_constant value_of
+quantifiers = (refl, refl, refl, refl)
+
+pub constants : ConstantsAreAsWorked
+unfolding is_constant value_of
+constants = (refl, refl, refl, refl, refl, refl, refl, refl, refl)
+
+pub types : TypesAreAsWorked
+unfolding found place_of type_place_of is_constant value_of
+types = (refl, refl, refl, refl, refl, refl, refl, refl, refl, refl, refl, refl)

@@ -1,0 +1,13 @@
+//! What holds of typing: laws, each on a function that does nothing.
+
+ghost use Rattle.murphi_types.specs.Worked.{ExpressionsAreAsWorked, DesignatorsAreAsWorked, CallsAreAsWorked, QuantifiersAreAsWorked, ConstantsAreAsWorked, TypesAreAsWorked};
+
+/// The worked cases of typing come out as they were worked out by hand.
+pub fn worked_cases()
+    ensures expressions { ExpressionsAreAsWorked }
+    ensures designators { DesignatorsAreAsWorked }
+    ensures calls { CallsAreAsWorked }
+    ensures quantifiers { QuantifiersAreAsWorked }
+    ensures constants { ConstantsAreAsWorked }
+    ensures types { TypesAreAsWorked }
+{}
