@@ -4,7 +4,10 @@ use Rattle.murphi_typed.specs.Expressions.{value_of}
 use Rattle.murphi_typed.specs.WellTyped.{has_parts}
 use Rattle.murphi_types.specs.Places.{place_of, type_place_of}
 use Rattle.murphi_types.specs.Constants.{is_constant}
-use Rattle.murphi_types.specs.Typing.{found}
+use Rattle.murphi_types.specs.Typing.{found, arguments_found}
+use Rattle.murphi_types.specs.Repeats.{enum_names, type_repeats}
+use Rattle.murphi_types.specs.Uses.{uses_in}
+use Rattle.murphi_types.specs.WorkedDeclarations.{DeclarationsAreAsWorked, LocalsAreAsWorked, RepeatsAreAsWorked, ArgumentsAreAsWorked}
 use Rattle.murphi_types.specs.Worked.{ExpressionsAreAsWorked, DesignatorsAreAsWorked, CallsAreAsWorked, QuantifiersAreAsWorked, ConstantsAreAsWorked, TypesAreAsWorked}
 
 pub expressions : ExpressionsAreAsWorked
@@ -30,3 +33,19 @@ constants = (refl, refl, refl, refl, refl, refl, refl, refl, refl)
 pub types : TypesAreAsWorked
 unfolding found place_of type_place_of is_constant value_of
 types = (refl, refl, refl, refl, refl, refl, refl, refl, refl, refl, refl, refl)
+
+pub declarations : DeclarationsAreAsWorked
+unfolding found place_of type_place_of is_constant value_of
+declarations = (refl, refl, refl, refl, refl, refl, refl, refl, refl)
+
+pub locals : LocalsAreAsWorked
+unfolding found place_of type_place_of is_constant value_of
+locals = (refl, refl)
+
+pub repeats : RepeatsAreAsWorked
+unfolding enum_names type_repeats uses_in
+repeats = (refl, refl, refl)
+
+pub arguments : ArgumentsAreAsWorked
+unfolding found place_of has_parts
+arguments = (refl, refl, refl, refl, refl, refl)

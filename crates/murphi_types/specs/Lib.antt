@@ -10,4 +10,10 @@ pub mod Designators
 pub mod Calls
 pub mod Types
 pub mod Typing
+pub mod Declarations
+pub mod Repeats
+pub mod Uses
+pub mod Weights
+pub mod Lemmas
 pub mod Worked
+pub mod WorkedDeclarations

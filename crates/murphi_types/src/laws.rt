@@ -1,6 +1,8 @@
 //! What holds of typing: laws, each on a function that does nothing.
 
 ghost use Rattle.murphi_types.specs.Worked.{ExpressionsAreAsWorked, DesignatorsAreAsWorked, CallsAreAsWorked, QuantifiersAreAsWorked, ConstantsAreAsWorked, TypesAreAsWorked};
+ghost use Rattle.murphi_types.specs.WorkedDeclarations.{DeclarationsAreAsWorked, LocalsAreAsWorked, RepeatsAreAsWorked, ArgumentsAreAsWorked};
+ghost use Rattle.murphi_types.specs.Lemmas.{lemma_faults, lemma_typed};
 
 /// The worked cases of typing come out as they were worked out by hand.
 pub fn worked_cases()
@@ -10,4 +12,8 @@ pub fn worked_cases()
     ensures quantifiers { QuantifiersAreAsWorked }
     ensures constants { ConstantsAreAsWorked }
     ensures types { TypesAreAsWorked }
+    ensures declarations { DeclarationsAreAsWorked }
+    ensures locals { LocalsAreAsWorked }
+    ensures repeats { RepeatsAreAsWorked }
+    ensures arguments { ArgumentsAreAsWorked }
 {}

@@ -1,4 +1,4 @@
-use Rattle.murphi_types.proofs.Samples.{expressions, designators, calls, quantifiers, constants, types}
+use Rattle.murphi_types.proofs.Samples.{expressions, designators, calls, quantifiers, constants, types, declarations, locals, repeats, arguments}
 use Rattle.murphi_types.proofs.laws.worked_cases.Goals as goal
 
 pub returns-clause-expressions : goal.returns-clause-expressions
@@ -18,3 +18,15 @@ returns-clause-types c = types
 
 pub returns-clause-constants : goal.returns-clause-constants
 returns-clause-constants c = constants
+
+pub returns-clause-declarations : goal.returns-clause-declarations
+returns-clause-declarations c = declarations
+
+pub returns-clause-locals : goal.returns-clause-locals
+returns-clause-locals c = locals
+
+pub returns-clause-repeats : goal.returns-clause-repeats
+returns-clause-repeats c = repeats
+
+pub returns-clause-arguments : goal.returns-clause-arguments
+returns-clause-arguments c = arguments
