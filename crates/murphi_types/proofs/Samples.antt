@@ -4,7 +4,7 @@ use Rattle.murphi_typed.specs.Expressions.{value_of}
 use Rattle.murphi_typed.specs.WellTyped.{has_parts}
 use Rattle.murphi_types.specs.Places.{place_of, type_place_of}
 use Rattle.murphi_types.specs.Constants.{is_constant}
-use Rattle.murphi_types.specs.Typing.{found, arguments_found}
+use Rattle.murphi_types.specs.Typing.{found}
 use Rattle.murphi_types.specs.Repeats.{enum_names, type_repeats}
 use Rattle.murphi_types.specs.Uses.{uses_in}
 use Rattle.murphi_types.specs.WorkedDeclarations.{DeclarationsAreAsWorked, LocalsAreAsWorked, RepeatsAreAsWorked, ArgumentsAreAsWorked}

@@ -23,7 +23,7 @@ use Rattle.murphi_types.specs.Faults.{lone, unless, is_clear}
 use Rattle.murphi_types.specs.Scopes.{is_routine_name}
 use Rattle.murphi_types.specs.Fitting.{fits, is_simple, has_values_of}
 use Rattle.murphi_types.specs.Found.{Found}
-use Rattle.murphi_types.specs.Designators.{Start, Rooted, Fixed, Nowhere, FoundPlace, designator_of, read_tree}
+use Rattle.murphi_types.specs.Designators.{Start, Rooted, Fixed, FoundPlace, designator_of, read_tree}
 
 -- the called routine, if the name stands for one
 pub record Callee : Type 0 where

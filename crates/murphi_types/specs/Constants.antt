@@ -1,6 +1,6 @@
 -- Constants. A constant is written with numbers, `true`, `false`, names of constants, enum names and operators
 -- alone, and has the value that the rules for expressions give it, short cuts and faults included.
-use Rattle.std.specs.Prelude.{ℕ, Bool, true, false, ◌&&◌, ℤ, List, [], Option, None, Some}
+use Rattle.std.specs.Prelude.{Bool, true, false, ◌&&◌, ℤ, [], Option, None, Some}
 use Rattle.term_core.specs.declared.value.Value.{Value}
 use Rattle.term_core.specs.declared.value.Value.TheVariants as value
 use Rattle.murphi_ast.specs.declared.token.Span.{Span}
@@ -10,7 +10,6 @@ use Rattle.murphi_ast.specs.Forms.{NameForm, NotForm, CompareForm, ImpliesForm}
 use Rattle.murphi_typed.specs.declared.expr.Expr as x
 use Rattle.murphi_typed.specs.Store.{blank}
 use Rattle.murphi_typed.specs.Outcome.{Outcome, Got, Fault}
-use Rattle.murphi_typed.specs.Families.{Name}
 use Rattle.murphi_typed.specs.Expressions.{Scene, Calls, value_of}
 use Rattle.murphi_types.specs.declared.scope.Meaning.{Meaning}
 use Rattle.murphi_types.specs.declared.scope.Meaning.TheVariants as meaning
@@ -33,7 +32,8 @@ unfoldable mutual
   is_constant s k (NameForm name) = is_constant_name (looked s k name.name)
   is_constant s k (NotForm body at) = is_constant s k body
   is_constant s k (MinusForm body at) = is_constant s k body
-  is_constant s k (e.Chain' _ (more_of-Expr first end_of-Expr) _ rest) = is_constant s k first && are_constants s k rest
+  is_constant s k (e.Chain' _ (more_of-Expr first end_of-Expr) _ rest) =
+      is_constant s k first && are_constants s k rest
   is_constant s k (CompareForm op left right) = is_constant s k left && is_constant s k right
   is_constant s k (ImpliesForm left right) = is_constant s k left && is_constant s k right
   is_constant s k (ChoiceForm test then' else') =

@@ -1,11 +1,8 @@
 -- Declarations of constants, types and variables. A name is declared from the end of its declaration on. Globals
 -- are declared for the whole text, the others in the scope of their routine, rule or start state.
-use Rattle.std.specs.Prelude.{ℕ, suc, ◌+◌, Bool, true, false, ◌&&◌, ℤ, List, [], ◌∷◌, ◌++◌, length, Option, None, Some, is_some, if◌then◌else◌}
-use Rattle.std.specs.Option.{option_map_or}
+use Rattle.std.specs.Prelude.{Bool, true, false, ℤ, List, [], ◌∷◌, ◌++◌, length, Option, None, Some, if◌then◌else◌}
 use Rattle.std.specs.Str.{bytes_eq}
 use Rattle.murphi_ast.specs.declared.expr.Named.{Named}
-use Rattle.murphi_ast.specs.declared.expr.Expr.{Expr}
-use Rattle.murphi_ast.specs.declared.expr.TypeExpr.{TypeExpr}
 use Rattle.murphi_ast.specs.declared.decl.Decl as decl
 use Rattle.murphi_ast.specs.declared.decl.Decl.{Decl}
 use Rattle.murphi_typed.specs.Families.{Name}

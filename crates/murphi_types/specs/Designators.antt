@@ -1,5 +1,5 @@
 -- Designators: a name that stands for a variable or for a value, and fields and indices after it.
-use Rattle.std.specs.Prelude.{ℕ, Bool, true, false, ◌&&◌, List, [], ◌∷◌, ◌++◌, Option, None, Some, is_some, option_map}
+use Rattle.std.specs.Prelude.{Bool, true, false, ◌&&◌, List, [], ◌∷◌, ◌++◌, Option, None, Some, is_some, option_map}
 use Rattle.term_core.specs.declared.value.Value.TheVariants as value
 use Rattle.murphi_ast.specs.declared.token.Span.{Span}
 use Rattle.murphi_ast.specs.declared.expr.Named.{Named}
@@ -8,7 +8,6 @@ use Rattle.murphi_typed.specs.declared.types.Simple.TheVariants as simple
 use Rattle.murphi_typed.specs.declared.types.AnyType as t
 use Rattle.murphi_typed.specs.declared.types.AnyType.{AnyType}
 use Rattle.murphi_typed.specs.declared.expr.Root.{Root}
-use Rattle.murphi_typed.specs.declared.expr.Root.TheVariants as root
 use Rattle.murphi_typed.specs.declared.expr.Expr as x
 use Rattle.murphi_typed.specs.declared.expr.Expr.{Expr}
 use Rattle.murphi_typed.specs.declared.expr.Designator as d

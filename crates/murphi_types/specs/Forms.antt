@@ -32,4 +32,5 @@ ScalarsetForm size at = t.Scalarset' tt (more_of-Expr size end_of-Expr) at
 
 -- `array [index] of item`
 pattern abbrev pub ArrayForm : TypeExpr → TypeExpr → Span → TypeExpr
-ArrayForm index item at = t.Array' tt (more_of-TypeExpr index end_of-TypeExpr) tt (more_of-TypeExpr item end_of-TypeExpr) at
+ArrayForm index item at =
+    t.Array' tt (more_of-TypeExpr index end_of-TypeExpr) tt (more_of-TypeExpr item end_of-TypeExpr) at

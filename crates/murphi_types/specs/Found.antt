@@ -1,8 +1,7 @@
 -- What is found of an expression: its type, the typed expression, what is declared for the whole text after it,
 -- and all its faults. A part in which anything is wrong has no type; its tree then says nothing.
-use Rattle.std.specs.Prelude.{Bool, true, ◌&&◌, List, [], ◌∷◌, ◌++◌, Option, None, Some, is_some}
+use Rattle.std.specs.Prelude.{Bool, true, ◌&&◌, List, [], ◌∷◌, ◌++◌, Option, Some, is_some}
 use Rattle.term_core.specs.declared.value.Value.{Value}
-use Rattle.term_core.specs.declared.value.Value.TheVariants as value
 use Rattle.murphi_ast.specs.declared.token.Span.{Span}
 use Rattle.murphi_ast.specs.declared.expr.ChainOp.{ChainOp}
 use Rattle.murphi_ast.specs.declared.expr.CompareOp.{CompareOp}

@@ -1,8 +1,6 @@
 -- Lemmas: an expression that is typed beside a typed protocol. Its names are the global names of the protocol, and
 -- the enum names that it writes itself, which are declared within that lemma alone.
-use Rattle.std.specs.Prelude.{ℕ, Bool, true, false, List, [], ◌∷◌, ◌++◌, map, length, Option, None, Some, is_some, slice_get, drop, if◌then◌else◌}
-
-use Rattle.std.specs.Option.{option_map_or}
+use Rattle.std.specs.Prelude.{ℕ, false, List, [], ◌++◌, map, length, Option, None, Some, is_some, slice_get, drop, if◌then◌else◌}
 use Rattle.murphi_ast.specs.declared.token.Span.{Span}
 use Rattle.murphi_ast.specs.declared.expr.Expr.{Expr}
 use Rattle.murphi_typed.specs.declared.expr.Root.TheVariants as root

@@ -15,5 +15,7 @@ pub mod Repeats
 pub mod Uses
 pub mod Weights
 pub mod Lemmas
+pub mod Lists
+pub mod Statements
 pub mod Worked
 pub mod WorkedDeclarations

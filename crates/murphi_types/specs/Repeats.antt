@@ -1,6 +1,6 @@
 -- Names that are declared twice in one scope: E06 at the second of them in text order. Enum names are declared for
 -- the whole text wherever an enum is written; the fields of a record are a scope of their own.
-use Rattle.std.specs.Prelude.{ℕ, Bool, not, List, [], ◌∷◌, ◌++◌}
+use Rattle.std.specs.Prelude.{Bool, not, List, [], ◌∷◌, ◌++◌}
 use Rattle.std.specs.List.{list_any}
 use Rattle.std.specs.Str.{bytes_eq}
 use Rattle.murphi_ast.specs.declared.expr.Named.{Named}

@@ -1,6 +1,6 @@
 -- Names in scope. The scopes are: all globals with all enum names; the formals and locals of one routine; the
 -- locals of one rule or start state; each bound variable; the fields of one record. Names keep their case.
-use Rattle.std.specs.Prelude.{ℕ, suc, ◌+◌, Bool, List, [], ◌∷◌, ◌++◌, Option, None, Some, if◌then◌else◌}
+use Rattle.std.specs.Prelude.{ℕ, suc, Bool, List, [], ◌∷◌, ◌++◌, Option, None, Some, if◌then◌else◌}
 use Rattle.std.specs.List.{list_any}
 use Rattle.std.specs.Str.{bytes_eq}
 use Rattle.murphi_typed.specs.Families.{Name}

@@ -1,6 +1,6 @@
 -- What is found of a type: the type by its parts, what is declared for the whole text after it, and its faults.
 -- Each enum and each scalarset that is written is a kind of its own, numbered in text order.
-use Rattle.std.specs.Prelude.{ℕ, suc, Bool, true, false, not, ◌&&◌, ◌||◌, nat_le, ℤ, pos, negsuc, int_lt, ◌-ℤ◌, List, [], ◌∷◌, ◌++◌, map, length, Option, None, Some, is_some, unwrap_or, if◌then◌else◌}
+use Rattle.std.specs.Prelude.{ℕ, suc, Bool, not, ◌&&◌, ◌||◌, nat_le, ℤ, pos, int_lt, ◌-ℤ◌, List, [], ◌∷◌, ◌++◌, map, length, Option, None, Some, is_some, unwrap_or, if◌then◌else◌}
 use Rattle.murphi_ast.specs.declared.token.Span.{Span}
 use Rattle.murphi_ast.specs.declared.expr.Named.{Named}
 use Rattle.murphi_typed.specs.declared.types.Simple.{Simple}

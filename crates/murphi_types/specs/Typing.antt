@@ -1,10 +1,8 @@
 -- Typing: what is found of each expression, designator, argument and type where it stands, by cases on how it is
 -- written. What an enum declares for the whole text is handed on from part to part, in text order.
-use Rattle.std.specs.Prelude.{ℕ, Bool, true, false, List, [], pos, Option}
+use Rattle.std.specs.Prelude.{true, List, [], pos, Option}
 use Rattle.term_core.specs.declared.value.Value.TheVariants as value
 use Rattle.murphi_ast.specs.declared.token.Span.{Span}
-use Rattle.murphi_ast.specs.declared.expr.Named.{Named}
-use Rattle.murphi_ast.specs.declared.expr.CompareOp.{CompareOp}
 use Rattle.murphi_ast.specs.declared.expr.Expr as e
 use Rattle.murphi_ast.specs.declared.expr.Expr.{Expr, Row_of-Expr, end_of-Expr, more_of-Expr, Row_of-Link, end_of-Link, more_of-Link, Row_of-Selector, end_of-Selector, more_of-Selector}
 use Rattle.murphi_ast.specs.declared.expr.Selector as part
@@ -15,7 +13,6 @@ use Rattle.murphi_typed.specs.declared.types.Simple.{Simple}
 use Rattle.murphi_typed.specs.declared.types.Simple.TheVariants as simple
 use Rattle.murphi_typed.specs.declared.types.AnyType.{AnyType}
 use Rattle.murphi_typed.specs.declared.types.AnyType as typ
-use Rattle.murphi_typed.specs.declared.expr.Expr as x
 use Rattle.murphi_typed.specs.declared.protocol.Formal.{Formal}
 use Rattle.murphi_typed.specs.WellTyped.{numbers, operand_type, first_of, rest_of}
 use Rattle.murphi_types.specs.declared.scope.Known.{Known}
@@ -26,7 +23,7 @@ use Rattle.murphi_types.specs.Scopes.{looked, binding}
 use Rattle.murphi_types.specs.Fitting.{is_truth, is_number, has_values_of, is_equality, left_fits, right_fits, simple_part}
 use Rattle.murphi_types.specs.Constants.{is_constant}
 use Rattle.murphi_types.specs.Found.{Found, FoundLinks, with_more, wanted, literal, not_found, minus_found, implies_found, compare_found, parts_found, choice_found, no_links, link_found, chain_found}
-use Rattle.murphi_types.specs.Designators.{FoundSelectors, chosen, start_type, no_selectors, field_chosen, item_chosen, index_type, index_fits, field_found, item_selected, place_made, read_found, undefined_found}
+use Rattle.murphi_types.specs.Designators.{FoundSelectors, chosen, start_type, no_selectors, field_chosen, index_type, index_fits, field_found, item_selected, place_made, read_found, undefined_found}
 use Rattle.murphi_types.specs.Calls.{FoundArguments, callee_of, formals_of, no_arguments, arguments_made, placed, valued, call_found}
 use Rattle.murphi_types.specs.Types.{FoundType, FoundFields, Naming, Unnamed, number_found, named_type, type_made, range_found, enum_found, scalarset_found, simple_wanted, array_found, no_fields, field_made, record_found, quantified_found}
 

@@ -1,7 +1,7 @@
 -- The places where a name of the whole text is used, in text order: where it stands for a value or a variable, and
 -- nothing inner hides it. The constant that is the size of the node type is held against the symmetry rules by
 -- these. A field is no use, and neither is a called name.
-use Rattle.std.specs.Prelude.{ℕ, Bool, List, [], ◌∷◌, ◌++◌, if◌then◌else◌}
+use Rattle.std.specs.Prelude.{List, [], ◌∷◌, ◌++◌, if◌then◌else◌}
 use Rattle.std.specs.Str.{bytes_eq}
 use Rattle.murphi_ast.specs.declared.token.Span.{Span}
 use Rattle.murphi_ast.specs.declared.expr.Named.{Named}

@@ -1,7 +1,7 @@
 -- Weights of expressions: 1 and the weights of the expressions and designators directly in them. A quantifier over a
 -- finite type counts its body once for each value, one over nodes once. A call counts the routine's body too. These
 -- are this project's own; they bound how large a rule is when its quantifiers are written out.
-use Rattle.std.specs.Prelude.{ℕ, suc, ◌+◌, ◌*◌, ◌-◌, ◌^◌, Bool, true, false, nat_le, ◌-ℤ◌, List, [], Option, None, Some, if◌then◌else◌}
+use Rattle.std.specs.Prelude.{ℕ, suc, ◌+◌, ◌*◌, ◌-◌, ◌^◌, nat_le, ◌-ℤ◌, List, if◌then◌else◌}
 use Rattle.murphi_ast.specs.declared.token.Span.{Span}
 use Rattle.murphi_typed.specs.declared.types.Simple.{Simple}
 use Rattle.murphi_typed.specs.declared.types.Simple.TheVariants as simple

@@ -2,7 +2,7 @@
 -- The text has declared `const C : 3; M : -32767 - 1; type E : enum { A, B }; var b : boolean; r : 0..3;
 -- a : array [0..1] of boolean; w : record f : boolean; g : 0..3 end; o : E;
 -- function F(s : 0..3) : boolean; procedure P(var v : boolean);`, and further on it declares a routine G.
-use Rattle.std.specs.Prelude.{◌≡◌, codes, ℕ, Bool, true, false, List, [], ◌∷◌, ◌++◌, ℤ, pos, negsuc, Option, None, Some}
+use Rattle.std.specs.Prelude.{◌≡◌, codes, ℕ, Bool, true, false, List, [], ◌∷◌, ℤ, pos, negsuc, Option, None, Some}
 use Rattle.term_core.specs.declared.value.Value.TheVariants as value
 use Rattle.murphi_ast.specs.declared.token.Span.{Span}
 use Rattle.murphi_ast.specs.declared.expr.Named.{Named}
@@ -30,7 +30,6 @@ use Rattle.murphi_typed.specs.declared.expr.Selector as select
 use Rattle.murphi_typed.specs.declared.stmt.Stmt as s
 use Rattle.murphi_typed.specs.declared.protocol.Routine.{Routine}
 use Rattle.murphi_typed.specs.declared.protocol.Formal.{Formal}
-use Rattle.murphi_typed.specs.WellTyped.{numbers}
 use Rattle.murphi_types.specs.declared.fault.Quantity.TheVariants as quantity
 use Rattle.murphi_types.specs.declared.fault.Cause.{Cause}
 use Rattle.murphi_types.specs.declared.fault.Cause.TheVariants as cause
@@ -44,7 +43,7 @@ use Rattle.murphi_types.specs.Constants.{is_constant, constant_number}
 use Rattle.murphi_types.specs.Scopes.{entry}
 use Rattle.murphi_types.specs.Faults.{first_fault}
 use Rattle.murphi_types.specs.Typing.{found, type_found}
-use Rattle.murphi_types.specs.Types.{Naming, Unnamed, As, AsNodes}
+use Rattle.murphi_types.specs.Types.{Unnamed, AsNodes}
 
 abbrev pub here : ℕ → Span
 here column = record { line = 1; column = column }
@@ -255,7 +254,8 @@ QuantifiersAreAsWorked =
     ≡ fault cause.E05 12)
     -- `forall i : record f : boolean end do b end`: a compound type
     × (first (every (codes "i") 8 (t.Fields' (tt ∷ [])
-    (more_of-FieldDecl (named (codes "f") 19 ∷ []) (t.Truth (here 23)) end_of-FieldDecl) (here 12)) (name (codes "b") 40)) ≡ fault cause.E07 12)
+    (more_of-FieldDecl (named (codes "f") 19 ∷ []) (t.Truth (here 23)) end_of-FieldDecl) (here 12))
+    (name (codes "b") 40)) ≡ fault cause.E07 12)
 
 -- the numbers of typed constants
 abbrev pub value_in : x.Expr → Option ℤ

@@ -1,9 +1,6 @@
 -- Worked cases of declarations, of names that are declared twice, of arguments, and of lemmas.
-use Rattle.std.specs.Prelude.{◌≡◌, codes, ℕ, Bool, true, false, List, [], ◌∷◌, ◌++◌, pos, negsuc, Option, None, Some}
-use Rattle.term_core.specs.declared.value.Value.TheVariants as value
-use Rattle.murphi_ast.specs.declared.token.Span.{Span}
+use Rattle.std.specs.Prelude.{◌≡◌, codes, ℕ, true, false, List, [], ◌∷◌, pos, Option, None, Some}
 use Rattle.murphi_ast.specs.declared.expr.Named.{Named}
-use Rattle.murphi_ast.specs.declared.expr.ChainOp.TheVariants as op
 use Rattle.murphi_ast.specs.declared.expr.Expr as e
 use Rattle.murphi_ast.specs.declared.expr.Expr.{Expr, Row_of-Expr, end_of-Expr, more_of-Expr}
 use Rattle.murphi_ast.specs.declared.expr.TypeExpr as t
@@ -21,22 +18,27 @@ use Rattle.murphi_types.specs.declared.fault.Fault.{Fault}
 use Rattle.murphi_types.specs.declared.scope.Meaning.{Meaning}
 use Rattle.murphi_types.specs.declared.scope.Meaning.TheVariants as meaning
 use Rattle.murphi_types.specs.declared.scope.Known.{Known}
-use Rattle.murphi_types.specs.declared.scope.Scope.{Scope}
-use Rattle.murphi_types.specs.Forms.{QuantifiedForm, ScalarsetForm}
+use Rattle.murphi_types.specs.Forms.{ScalarsetForm}
 use Rattle.murphi_types.specs.Faults.{first_fault}
-use Rattle.murphi_types.specs.Scopes.{entry, looked}
+use Rattle.murphi_types.specs.Scopes.{looked}
 use Rattle.murphi_types.specs.Typing.{arguments_found}
 use Rattle.murphi_types.specs.Declarations.{Declared, all_declared}
-use Rattle.murphi_types.specs.Repeats.{repeats_in, enum_names, type_enums, type_repeats}
+use Rattle.murphi_types.specs.Repeats.{repeats_in, type_enums, type_repeats}
 use Rattle.murphi_types.specs.Uses.{uses_in}
-use Rattle.murphi_types.specs.Worked.{here, named, fault, name, number, chain, range, enum, outside, known, every, formal}
+use Rattle.murphi_types.specs.Worked.{here, named, fault, name, number, range, enum, outside, known, every, formal}
 
 -- declarations at the beginning of a text, with NODE for the node type
 abbrev pub nothing_known : Known
 nothing_known = record { names = []; kinds = []; globals = []; routines = [] }
 
 abbrev pub at_first : Declared
-at_first = record { scope = record outside { node = Some (codes "NODE") }; known = nothing_known; locals = []; faults = [] }
+at_first =
+    record {
+      scope = record outside { node = Some (codes "NODE") };
+      known = nothing_known;
+      locals = [];
+      faults = [];
+    }
 
 abbrev pub after : List Decl → Declared
 after decls = all_declared true decls at_first

@@ -3,5 +3,5 @@
 #![tactic(auto)]
 
 pub mod fault;
-pub mod scope;
 pub mod laws;
+pub mod scope;
