@@ -1,5 +1,5 @@
 -- Calls: the called routine and what its formals are given.
-use Rattle.std.specs.Prelude.{ℕ, Bool, true, false, not, ◌&&◌, ◌||◌, List, [], ◌∷◌, ◌++◌, length, nat_eq, Option, None, Some, is_some, if◌then◌else◌, slice_get, option_and_then, option_map}
+use Rattle.std.specs.Prelude.{ℕ, suc, ◌+◌, unwrap_or, Bool, true, false, not, ◌&&◌, ◌||◌, List, [], ◌∷◌, ◌++◌, length, nat_eq, Option, None, Some, is_some, if◌then◌else◌, slice_get, option_and_then, option_map}
 use Rattle.std.specs.Option.{option_map_or}
 use Rattle.murphi_ast.specs.declared.token.Span.{Span}
 use Rattle.murphi_ast.specs.declared.expr.Named.{Named}
@@ -25,20 +25,26 @@ use Rattle.murphi_types.specs.Fitting.{fits, is_simple, has_values_of}
 use Rattle.murphi_types.specs.Found.{Found}
 use Rattle.murphi_types.specs.Designators.{Start, Rooted, Fixed, FoundPlace, designator_of, read_tree}
 
--- the called routine, if the name stands for one
+-- the called routine, if the name stands for one, and the weight of its body
 pub record Callee : Type 0 where
   pub number : ℕ
   pub routine : Option Routine
+  pub weight : ℕ
   pub faults : List Fault
 
 abbrev pub no_callee : List Fault → Callee
-no_callee faults = record { number = 0; routine = None; faults = faults }
+no_callee faults = record { number = 0; routine = None; weight = 0; faults = faults }
 
 -- routines are declared before they are called: a call of one inside itself or ahead of its declaration is E10,
 -- a name that no routine of the text has is E05, and a name that stands for something else is E07
 abbrev pub callee_of : Scope → Known → Named → Option Meaning → Callee
 callee_of s k name (Some (meaning.Routine number)) =
-    record { number = number; routine = slice_get k.routines number; faults = [] }
+    record {
+      number = number;
+      routine = slice_get k.routines number;
+      weight = unwrap_or (slice_get k.weights number) 0;
+      faults = [];
+    }
 callee_of s k name (Some meaning.Refused) = no_callee []
 callee_of s k name (Some _) = no_callee (lone cause.E07 name.at)
 callee_of s k name None = no_callee (lone (if is_routine_name s name.name then cause.E10 else cause.E05) name.at)
@@ -64,19 +70,32 @@ count_fits None count = true
 pub record FoundArguments : Type 0 where
   pub typed : Bool
   pub trees : List argument.Argument
+  pub weight : ℕ
   pub known : Known
   pub faults : List Fault
 
 abbrev pub no_arguments : Known → FoundArguments
-no_arguments k = record { typed = true; trees = []; known = k; faults = [] }
+no_arguments k = record { typed = true; trees = []; weight = 0; known = k; faults = [] }
 
 abbrev pub arguments_made : FoundArguments → FoundArguments → FoundArguments
 arguments_made f g =
-    record { typed = f.typed && g.typed; trees = f.trees ++ g.trees; known = g.known; faults = f.faults ++ g.faults }
+    record {
+      typed = f.typed && g.typed;
+      trees = f.trees ++ g.trees;
+      weight = f.weight + g.weight;
+      known = g.known;
+      faults = f.faults ++ g.faults;
+    }
 
-abbrev pub argument_made : Bool → argument.Argument → Known → List Fault → FoundArguments
-argument_made typed tree known faults =
-    record { typed = typed && is_clear faults; trees = tree ∷ []; known = known; faults = faults }
+abbrev pub argument_made : Bool → argument.Argument → ℕ → Known → List Fault → FoundArguments
+argument_made typed tree weight known faults =
+    record {
+      typed = typed && is_clear faults;
+      trees = tree ∷ [];
+      weight = weight;
+      known = known;
+      faults = faults;
+    }
 
 -- by value, a simple formal takes values of its type, where subranges count as one, and a compound one a
 -- designator of the same type
@@ -113,16 +132,16 @@ place_tree p start = argument.Value (read_tree p start)
 
 -- a designator by value: E07 at its first token where it does not fit
 abbrev pub copied : Option Formal → FoundPlace → FoundArguments
-copied None p = argument_made (is_some p.type) (copy_tree None p p.start) p.known p.faults
+copied None p = argument_made (is_some p.type) (copy_tree None p p.start) p.weight p.known p.faults
 copied (Some f) p =
-    argument_made (is_some p.type) (copy_tree (Some f) p p.start) p.known
+    argument_made (is_some p.type) (copy_tree (Some f) p p.start) p.weight p.known
     (p.faults ++ unless (fits (value_fits f.of) p.type) cause.E07 p.at)
 
 -- a designator for a `var` formal: E07 at its first token where it does not fit, E14 there where it may not be
 -- written
 abbrev pub handed : Formal → FoundPlace → FoundArguments
 handed f p =
-    argument_made (is_some p.type) (place_tree p p.start) p.known
+    argument_made (is_some p.type) (place_tree p p.start) p.weight p.known
     (p.faults ++ (unless (fits (place_fits f.of p.start) p.type) cause.E07 p.at
     ++ unless (may_write p.start) cause.E14 p.at))
 
@@ -137,9 +156,9 @@ value_faults_of name at f type =
     if f.by_place then lone cause.E11 name else unless (fits (value_fits f.of) type) cause.E07 at
 
 abbrev pub valued : Span → Span → Option Formal → Found → FoundArguments
-valued name at None f = argument_made (is_some f.type) (argument.Value f.tree) f.known f.faults
+valued name at None f = argument_made (is_some f.type) (argument.Value f.tree) f.weight f.known f.faults
 valued name at (Some formal) f =
-    argument_made (is_some f.type) (argument.Value f.tree) f.known
+    argument_made (is_some f.type) (argument.Value f.tree) f.weight f.known
     (f.faults ++ value_faults_of name at formal f.type)
 
 -- the type of a call is that of the result; that of a procedure says nothing
@@ -153,6 +172,7 @@ call_found in_function at c g =
       type = only_if (g.typed && count_fits c.routine (length g.trees))
           (option_map (λ type. t.Simple (widened type)) (result_of c.routine));
       tree = x.Call c.number (a.Of g.trees) at;
+      weight = suc (g.weight + c.weight);
       known = g.known;
       faults = c.faults ++ (value_faults in_function at c.routine
           ++ (unless (count_fits c.routine (length g.trees)) cause.E11 at ++ g.faults));

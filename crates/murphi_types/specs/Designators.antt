@@ -1,5 +1,5 @@
 -- Designators: a name that stands for a variable or for a value, and fields and indices after it.
-use Rattle.std.specs.Prelude.{Bool, true, false, ◌&&◌, List, [], ◌∷◌, ◌++◌, Option, None, Some, is_some, option_map}
+use Rattle.std.specs.Prelude.{ℕ, suc, ◌+◌, Bool, true, false, ◌&&◌, List, [], ◌∷◌, ◌++◌, Option, None, Some, is_some, option_map}
 use Rattle.term_core.specs.declared.value.Value.TheVariants as value
 use Rattle.murphi_ast.specs.declared.token.Span.{Span}
 use Rattle.murphi_ast.specs.declared.expr.Named.{Named}
@@ -94,15 +94,22 @@ item_chosen at typed None = nothing []
 pub record FoundSelectors : Type 0 where
   pub type : Option AnyType
   pub trees : List select.Selector
+  pub weight : ℕ
   pub known : Known
   pub faults : List Fault
 
 abbrev pub no_selectors : Option AnyType → Known → FoundSelectors
-no_selectors type k = record { type = type; trees = []; known = k; faults = [] }
+no_selectors type k = record { type = type; trees = []; weight = 0; known = k; faults = [] }
 
 abbrev pub field_found : Named → Chosen → FoundSelectors → FoundSelectors
 field_found name c g =
-    record { type = g.type; trees = select.Field name.name ∷ g.trees; known = g.known; faults = c.faults ++ g.faults }
+    record {
+      type = g.type;
+      trees = select.Field name.name ∷ g.trees;
+      weight = g.weight;
+      known = g.known;
+      faults = c.faults ++ g.faults;
+    }
 
 -- the tree of an index; where there is no array it says nothing
 abbrev pub index_tree : Option Simple → Expr → select.Selector
@@ -114,6 +121,7 @@ index_found over f c g =
     record {
       type = g.type;
       trees = index_tree over f.tree ∷ g.trees;
+      weight = f.weight + g.weight;
       known = g.known;
       faults = f.faults ++ (c.faults ++ g.faults);
     }
@@ -129,6 +137,7 @@ pub record FoundPlace : Type 0 where
   pub at : Span
   pub type : Option AnyType
   pub selectors : List select.Selector
+  pub weight : ℕ
   pub known : Known
   pub faults : List Fault
 
@@ -139,6 +148,7 @@ place_made at what c g =
       at = at;
       type = g.type;
       selectors = g.trees;
+      weight = suc g.weight;
       known = g.known;
       faults = c.faults ++ g.faults;
     }
@@ -154,7 +164,13 @@ read_tree p Nowhere = x.Known value.Undefined
 
 abbrev pub read_found : FoundPlace → Found
 read_found p =
-    record { type = option_map as_value p.type; tree = read_tree p p.start; known = p.known; faults = p.faults }
+    record {
+      type = option_map as_value p.type;
+      tree = read_tree p p.start;
+      weight = p.weight;
+      known = p.known;
+      faults = p.faults;
+    }
 
 -- `isundefined(d)`: of a constant, an enum name, a parameter or a bound variable it is false
 abbrev pub undefined_tree : FoundPlace → Start → Expr
@@ -167,6 +183,7 @@ undefined_found p =
     record {
       type = only_if (is_some p.type && fits is_simple p.type) (Some (t.Simple simple.Truth));
       tree = undefined_tree p p.start;
+      weight = suc p.weight;
       known = p.known;
       faults = p.faults ++ unless (fits is_simple p.type) cause.E07 p.at;
     }

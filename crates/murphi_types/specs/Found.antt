@@ -1,6 +1,6 @@
--- What is found of an expression: its type, the typed expression, what is declared for the whole text after it,
+-- What is found of an expression: its type, the typed expression, its weight, what is declared for the whole text after it,
 -- and all its faults. A part in which anything is wrong has no type; its tree then says nothing.
-use Rattle.std.specs.Prelude.{Bool, true, ◌&&◌, List, [], ◌∷◌, ◌++◌, Option, Some, is_some}
+use Rattle.std.specs.Prelude.{ℕ, suc, ◌+◌, Bool, true, ◌&&◌, List, [], ◌∷◌, ◌++◌, Option, Some, is_some}
 use Rattle.term_core.specs.declared.value.Value.{Value}
 use Rattle.murphi_ast.specs.declared.token.Span.{Span}
 use Rattle.murphi_ast.specs.declared.expr.ChainOp.{ChainOp}
@@ -22,6 +22,7 @@ use Rattle.murphi_types.specs.Fitting.{fits}
 pub record Found : Type 0 where
   pub type : Option AnyType
   pub tree : Expr
+  pub weight : ℕ
   pub known : Known
   pub faults : List Fault
 
@@ -35,42 +36,52 @@ wanted test at f =
     record {
       type = only_if (fits test f.type) f.type;
       tree = f.tree;
+      weight = f.weight;
       known = f.known;
       faults = f.faults ++ unless (fits test f.type) cause.E07 at;
     }
 
 -- a whole of this type, where all its parts are well typed
-abbrev pub whole : Bool → Simple → Expr → Known → List Fault → Found
-whole typed type tree known faults =
-    record { type = only_if typed (Some (t.Simple type)); tree = tree; known = known; faults = faults }
+abbrev pub whole : Bool → Simple → Expr → ℕ → Known → List Fault → Found
+whole typed type tree weight known faults =
+    record {
+      type = only_if typed (Some (t.Simple type));
+      tree = tree;
+      weight = weight;
+      known = known;
+      faults = faults;
+    }
 
 -- a value as it is written
 abbrev pub literal : Simple → Value → Known → Found
-literal type v k = whole true type (x.Known v) k []
+literal type v k = whole true type (x.Known v) 1 k []
 
 -- `! body`
 abbrev pub not_found : Found → Found
-not_found f = whole (is_some f.type) simple.Truth (x.Not f.tree) f.known f.faults
+not_found f = whole (is_some f.type) simple.Truth (x.Not f.tree) (suc f.weight) f.known f.faults
 
 -- `- body`
 abbrev pub minus_found : Found → Found
-minus_found f = whole (is_some f.type) numbers (x.Minus f.tree) f.known f.faults
+minus_found f = whole (is_some f.type) numbers (x.Minus f.tree) (suc f.weight) f.known f.faults
 
 -- `left -> right`
 abbrev pub implies_found : Found → Found → Found
 implies_found f g =
-    whole (is_some f.type && is_some g.type) simple.Truth (x.Implies f.tree g.tree) g.known (f.faults ++ g.faults)
+    whole (is_some f.type && is_some g.type) simple.Truth (x.Implies f.tree g.tree)
+    (suc (f.weight + g.weight)) g.known (f.faults ++ g.faults)
 
 -- `left = right` and the other comparisons
 abbrev pub compare_found : CompareOp → Found → Found → Found
 compare_found op f g =
-    whole (is_some f.type && is_some g.type) simple.Truth (x.Compare op f.tree g.tree) g.known (f.faults ++ g.faults)
+    whole (is_some f.type && is_some g.type) simple.Truth (x.Compare op f.tree g.tree)
+    (suc (f.weight + g.weight)) g.known (f.faults ++ g.faults)
 
 -- the two parts of `?:`, which are of one type: that of the left one
 pub record FoundParts : Type 0 where
   pub type : Option AnyType
   pub then' : Expr
   pub else' : Expr
+  pub weight : ℕ
   pub known : Known
   pub faults : List Fault
 
@@ -80,6 +91,7 @@ parts_found f g =
       type = only_if (is_some g.type) f.type;
       then' = f.tree;
       else' = g.tree;
+      weight = f.weight + g.weight;
       known = g.known;
       faults = f.faults ++ g.faults;
     }
@@ -90,6 +102,7 @@ choice_found f g =
     record {
       type = only_if (is_some f.type) g.type;
       tree = x.Choice f.tree g.then' g.else';
+      weight = suc (f.weight + g.weight);
       known = g.known;
       faults = f.faults ++ g.faults;
     }
@@ -98,17 +111,19 @@ choice_found f g =
 pub record FoundLinks : Type 0 where
   pub typed : Bool
   pub trees : List Link
+  pub weight : ℕ
   pub known : Known
   pub faults : List Fault
 
 abbrev pub no_links : Known → FoundLinks
-no_links k = record { typed = true; trees = []; known = k; faults = [] }
+no_links k = record { typed = true; trees = []; weight = 0; known = k; faults = [] }
 
 abbrev pub link_found : ChainOp → Found → FoundLinks → FoundLinks
 link_found op f g =
     record {
       typed = is_some f.type && g.typed;
       trees = record { op = op; operand = f.tree } ∷ g.trees;
+      weight = f.weight + g.weight;
       known = g.known;
       faults = f.faults ++ g.faults;
     }
@@ -116,4 +131,4 @@ link_found op f g =
 -- operands of one level, from left to right: the whole is of the type of the operands
 abbrev pub chain_found : Simple → Found → FoundLinks → Found
 chain_found type f g =
-    whole (is_some f.type && g.typed) type (x.Chain f.tree g.trees) g.known (f.faults ++ g.faults)
+    whole (is_some f.type && g.typed) type (x.Chain f.tree g.trees) (suc (f.weight + g.weight)) g.known (f.faults ++ g.faults)

@@ -5,6 +5,7 @@ pub mod Faults
 pub mod Scopes
 pub mod Fitting
 pub mod Constants
+pub mod Weights
 pub mod Found
 pub mod Designators
 pub mod Calls
@@ -13,7 +14,6 @@ pub mod Typing
 pub mod Declarations
 pub mod Repeats
 pub mod Uses
-pub mod Weights
 pub mod Lemmas
 pub mod Lists
 pub mod Statements

@@ -1,5 +1,5 @@
 -- Statements: what is found of each where it stands. A body hands on what its enums declare for the whole text.
-use Rattle.std.specs.Prelude.{ℕ, Bool, true, false, not, ◌&&◌, ◌||◌, List, [], ◌∷◌, ◌++◌, length, Option, None, Some, is_some, unwrap_or, if◌then◌else◌}
+use Rattle.std.specs.Prelude.{suc, ◌+◌, ◌*◌, ℕ, Bool, true, false, not, ◌&&◌, ◌||◌, List, [], ◌∷◌, ◌++◌, length, Option, None, Some, is_some, unwrap_or, if◌then◌else◌}
 use Rattle.murphi_ast.specs.declared.token.Span.{Span}
 use Rattle.murphi_ast.specs.declared.expr.Expr as e
 use Rattle.murphi_ast.specs.declared.expr.Expr.{Expr}
@@ -28,6 +28,7 @@ use Rattle.murphi_types.specs.Faults.{lone, unless}
 use Rattle.murphi_types.specs.Places.{place_of, type_place_of}
 use Rattle.murphi_types.specs.Scopes.{looked, binding}
 use Rattle.murphi_types.specs.Fitting.{fits, is_simple, is_truth, is_comparable, simple_part, as_value}
+use Rattle.murphi_types.specs.Weights.{turns_of}
 use Rattle.murphi_types.specs.Found.{Found, with_more, wanted}
 use Rattle.murphi_types.specs.Designators.{Start, Rooted, Fixed, Nowhere, FoundPlace, designator_of, read_tree, read_found, start_type, place_made}
 use Rattle.murphi_types.specs.Calls.{Callee, FoundArguments, callee_of, formals_of, count_fits, is_function, value_fits, may_write}
@@ -42,20 +43,28 @@ pub data Leaving : Type 0 where
   ByReturn : Leaving
   WithValue : Option Simple → Leaving
 
--- statements that are found, with what is declared for the whole text after them
+-- statements that are found, with their weight and what is declared for the whole text after them
 pub record FoundStmts : Type 0 where
   pub trees : List s.Stmt
+  pub weight : ℕ
   pub known : Known
   pub faults : List Fault
 
 abbrev pub no_stmts : Known → FoundStmts
-no_stmts k = record { trees = []; known = k; faults = [] }
+no_stmts k = record { trees = []; weight = 0; known = k; faults = [] }
 
-abbrev pub one_stmt : s.Stmt → Known → List Fault → FoundStmts
-one_stmt tree k faults = record { trees = tree ∷ []; known = k; faults = faults }
+-- one statement, by the weight of what is directly in it
+abbrev pub one_stmt : s.Stmt → ℕ → Known → List Fault → FoundStmts
+one_stmt tree inside k faults = record { trees = tree ∷ []; weight = suc inside; known = k; faults = faults }
 
 abbrev pub stmts_made : FoundStmts → FoundStmts → FoundStmts
-stmts_made f g = record { trees = f.trees ++ g.trees; known = g.known; faults = f.faults ++ g.faults }
+stmts_made f g =
+    record {
+      trees = f.trees ++ g.trees;
+      weight = f.weight + g.weight;
+      known = g.known;
+      faults = f.faults ++ g.faults;
+    }
 
 -- Writes
 
@@ -101,14 +110,14 @@ copy_of p q start = s.Assign (target p) (simple_or p.type) (read_tree q start)
 
 abbrev pub copied : Bool → FoundPlace → FoundPlace → FoundStmts
 copied in_function p q =
-    one_stmt (copy_of p q q.start) q.known (p.faults
+    one_stmt (copy_of p q q.start) (p.weight + q.weight) q.known (p.faults
     ++ (write_faults in_function p.at p
     ++ (q.faults ++ unless (fits (goes_into p.type) q.type) cause.E07 q.at)))
 
 -- `to := value`, any other expression
 abbrev pub stored : Bool → Span → FoundPlace → Found → FoundStmts
 stored in_function at p f =
-    one_stmt (s.Assign (target p) (simple_or p.type) f.tree) f.known (p.faults
+    one_stmt (s.Assign (target p) (simple_or p.type) f.tree) (p.weight + f.weight) f.known (p.faults
     ++ (write_faults in_function p.at p
     ++ (f.faults ++ unless (fits (goes_into p.type) f.type) cause.E07 at)))
 
@@ -121,11 +130,11 @@ assigned scope p other = stored scope.in_function (place_of other) p (found scop
 -- `clear` and `undefine`, at the place of the word
 abbrev pub cleared : Bool → Span → FoundPlace → FoundStmts
 cleared in_function at p =
-    one_stmt (s.Clear (target p) (type_or p.type) at) p.known (p.faults ++ write_faults in_function at p)
+    one_stmt (s.Clear (target p) (type_or p.type) at) p.weight p.known (p.faults ++ write_faults in_function at p)
 
 abbrev pub undefined : Bool → Span → FoundPlace → FoundStmts
 undefined in_function at p =
-    one_stmt (s.Undefine (target p) at) p.known (p.faults ++ write_faults in_function at p)
+    one_stmt (s.Undefine (target p) at) p.weight p.known (p.faults ++ write_faults in_function at p)
 
 -- Calls
 
@@ -137,7 +146,7 @@ statement_faults in_function at None = []
 
 abbrev pub called : Bool → Span → Callee → FoundArguments → FoundStmts
 called in_function at c g =
-    one_stmt (s.Call c.number (a.Of g.trees) at) g.known (c.faults
+    one_stmt (s.Call c.number (a.Of g.trees) at) (g.weight + c.weight) g.known (c.faults
     ++ (statement_faults in_function at c.routine
     ++ (unless (count_fits c.routine (length g.trees)) cause.E11 at ++ g.faults)))
 
@@ -145,74 +154,89 @@ called in_function at c g =
 
 pub record FoundArms : Type 0 where
   pub trees : List Arm
+  pub weight : ℕ
   pub known : Known
   pub faults : List Fault
 
 abbrev pub no_arms : Known → FoundArms
-no_arms k = record { trees = []; known = k; faults = [] }
+no_arms k = record { trees = []; weight = 0; known = k; faults = [] }
 
 abbrev pub arm_made : Found → FoundStmts → FoundArms → FoundArms
 arm_made f body g =
     record {
       trees = record { test = f.tree; body = body.trees } ∷ g.trees;
+      weight = f.weight + (body.weight + g.weight);
       known = g.known;
       faults = f.faults ++ (body.faults ++ g.faults);
     }
 
 abbrev pub if_made : Span → FoundArms → FoundStmts → FoundStmts
-if_made at f g = one_stmt (s.If f.trees g.trees at) g.known (f.faults ++ g.faults)
+if_made at f g = one_stmt (s.If f.trees g.trees at) (f.weight + g.weight) g.known (f.faults ++ g.faults)
 
 -- the labels of a case, each compared with what is switched on as by `=`
 pub record FoundLabels : Type 0 where
   pub trees : List x.Expr
+  pub weight : ℕ
   pub known : Known
   pub faults : List Fault
 
 abbrev pub label_made : Found → FoundLabels → FoundLabels
-label_made f g = record { trees = f.tree ∷ g.trees; known = g.known; faults = f.faults ++ g.faults }
+label_made f g =
+    record {
+      trees = f.tree ∷ g.trees;
+      weight = f.weight + g.weight;
+      known = g.known;
+      faults = f.faults ++ g.faults;
+    }
 
 abbrev pub labels_found : Scope → Known → Option AnyType → List Expr → FoundLabels
-labels_found scope k on [] = record { trees = []; known = k; faults = [] }
+labels_found scope k on [] = record { trees = []; weight = 0; known = k; faults = [] }
 labels_found scope k on (first ∷ rest) =
     with_more (wanted (is_comparable on) (place_of first) (found scope k first))
     (λ f. labels_found scope f.known on rest) label_made
 
 pub record FoundCases : Type 0 where
   pub trees : List Case
+  pub weight : ℕ
   pub known : Known
   pub faults : List Fault
 
 abbrev pub no_cases : Known → FoundCases
-no_cases k = record { trees = []; known = k; faults = [] }
+no_cases k = record { trees = []; weight = 0; known = k; faults = [] }
 
 abbrev pub case_made : FoundLabels → FoundStmts → FoundCases → FoundCases
 case_made f body g =
     record {
       trees = record { labels = f.trees; body = body.trees } ∷ g.trees;
+      weight = f.weight + (body.weight + g.weight);
       known = g.known;
       faults = f.faults ++ (body.faults ++ g.faults);
     }
 
 abbrev pub switch_made : Span → Found → FoundCases → FoundStmts → FoundStmts
 switch_made at f g h =
-    one_stmt (s.Switch f.tree g.trees h.trees at) h.known (f.faults ++ (g.faults ++ h.faults))
+    one_stmt (s.Switch f.tree g.trees h.trees at) (f.weight + (g.weight + h.weight)) h.known
+    (f.faults ++ (g.faults ++ h.faults))
 
 -- Loops
 
 abbrev pub for_made : Span → FoundType → FoundStmts → FoundStmts
-for_made at f g = one_stmt (s.For (simple_or f.type) g.trees at) g.known (f.faults ++ g.faults)
+for_made at f g =
+    one_stmt (s.For (simple_or f.type) g.trees at) (turns_of (simple_part f.type) * g.weight) g.known
+    (f.faults ++ g.faults)
 
 -- Single words
 
 abbrev pub asserted : Span → Found → FoundStmts
-asserted at f = one_stmt (s.Assert f.tree at) f.known f.faults
+asserted at f = one_stmt (s.Assert f.tree at) f.weight f.known f.faults
+
+abbrev pub shown : Span → Found → FoundStmts
+shown at f = one_stmt (s.Put f.tree at) f.weight f.known f.faults
 
 -- `put` of a string, or of a value of simple type
 abbrev pub put : Scope → Known → Span → Option Expr → FoundStmts
-put scope k at None = one_stmt (s.PutText at) k []
-put scope k at (Some body) =
-    with_more (wanted is_simple (place_of body) (found scope k body)) (λ f. f.known)
-    (λ f after. one_stmt (s.Put f.tree at) after f.faults)
+put scope k at None = one_stmt (s.PutText at) 0 k []
+put scope k at (Some body) = shown at (wanted is_simple (place_of body) (found scope k body))
 
 -- the type of a result, where it is known
 abbrev pub is_result : Option Simple → AnyType → Bool
@@ -220,14 +244,14 @@ is_result (Some type) found = value_fits (t.Simple type) found
 is_result None found = true
 
 abbrev pub returned : Span → Found → FoundStmts
-returned at f = one_stmt (s.Return f.tree at) f.known f.faults
+returned at f = one_stmt (s.Return f.tree at) f.weight f.known f.faults
 
 -- `return`: with a value in a function, without one in a procedure; anything else is E11
 abbrev pub left : Scope → Known → Leaving → Span → Option Expr → FoundStmts
-left scope k ByReturn at None = one_stmt (s.Leave at) k []
+left scope k ByReturn at None = one_stmt (s.Leave at) 0 k []
 left scope k (WithValue type) at (Some body) =
     returned at (wanted (is_result type) (place_of body) (found scope k body))
-left scope k leaving at _ = one_stmt (s.Leave at) k (lone cause.E11 at)
+left scope k leaving at _ = one_stmt (s.Leave at) 0 k (lone cause.E11 at)
 
 unfoldable mutual
   -- a statement, in a body that may be left so
@@ -247,10 +271,10 @@ unfoldable mutual
       (λ f. stmts_found leaving (binding scope bind.name.name (simple_part f.type)) f.known body) (for_made at)
   stmt_found leaving scope k (w.Clear place at) = cleared scope.in_function at (place_found scope k place)
   stmt_found leaving scope k (w.Undefine place at) = undefined scope.in_function at (place_found scope k place)
-  stmt_found leaving scope k (w.Error at) = one_stmt (s.Error at) k []
+  stmt_found leaving scope k (w.Error at) = one_stmt (s.Error at) 0 k []
   stmt_found leaving scope k (w.Assert test at) =
       asserted at (wanted is_truth (place_of test) (found scope k test))
-  stmt_found leaving scope k (w.Put shown at) = put scope k at shown
+  stmt_found leaving scope k (w.Put given at) = put scope k at given
   stmt_found leaving scope k (w.Return body at) = left scope k leaving at body
 
   pub stmts_found : {n : _} → Leaving → Scope → Known → Row_of-Stmt n → FoundStmts

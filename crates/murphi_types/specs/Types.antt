@@ -1,6 +1,6 @@
 -- What is found of a type: the type by its parts, what is declared for the whole text after it, and its faults.
 -- Each enum and each scalarset that is written is a kind of its own, numbered in text order.
-use Rattle.std.specs.Prelude.{ℕ, suc, Bool, not, ◌&&◌, ◌||◌, nat_le, ℤ, pos, int_lt, ◌-ℤ◌, List, [], ◌∷◌, ◌++◌, map, length, Option, None, Some, is_some, unwrap_or, if◌then◌else◌}
+use Rattle.std.specs.Prelude.{ℕ, suc, ◌*◌, Bool, not, ◌&&◌, ◌||◌, nat_le, ℤ, pos, int_lt, ◌-ℤ◌, List, [], ◌∷◌, ◌++◌, map, length, Option, None, Some, is_some, unwrap_or, if◌then◌else◌}
 use Rattle.murphi_ast.specs.declared.token.Span.{Span}
 use Rattle.murphi_ast.specs.declared.expr.Named.{Named}
 use Rattle.murphi_typed.specs.declared.types.Simple.{Simple}
@@ -24,6 +24,7 @@ use Rattle.murphi_types.specs.declared.scope.Known.{Known}
 use Rattle.murphi_types.specs.Faults.{lone, unless}
 use Rattle.murphi_types.specs.Scopes.{entry}
 use Rattle.murphi_types.specs.Fitting.{fits, is_simple, simple_part}
+use Rattle.murphi_types.specs.Weights.{turns_of}
 use Rattle.murphi_types.specs.Found.{Found}
 use Rattle.murphi_types.specs.Constants.{constant_number}
 use Rattle.murphi_types.specs.Designators.{Chosen, chosen, nothing}
@@ -206,6 +207,7 @@ quantified_found all f g =
     record {
       type = only_if (is_some f.type && is_some g.type) (Some (t.Simple simple.Truth));
       tree = x.Quantified all (unwrap_or (simple_part f.type) simple.Truth) g.tree;
+      weight = suc (turns_of (simple_part f.type) * g.weight);
       known = g.known;
       faults = f.faults ++ g.faults;
     }

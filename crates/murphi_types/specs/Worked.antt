@@ -89,6 +89,7 @@ known =
       routines = routine (codes "F") (formal (codes "s") false (typ.Simple (simple.Range (pos 0) (pos 3))) ∷ [])
           (Some simple.Truth)
           ∷ routine (codes "P") (formal (codes "v") true (typ.Simple simple.Truth) ∷ []) None ∷ [];
+      weights = 5 ∷ 7 ∷ [];
     }
 
 -- outside all bodies, and in the body of a function

@@ -29,7 +29,7 @@ use Rattle.murphi_types.specs.Worked.{here, named, fault, name, number, range, e
 
 -- declarations at the beginning of a text, with NODE for the node type
 abbrev pub nothing_known : Known
-nothing_known = record { names = []; kinds = []; globals = []; routines = [] }
+nothing_known = record { names = []; kinds = []; globals = []; routines = []; weights = [] }
 
 abbrev pub at_first : Declared
 at_first =

@@ -32,7 +32,7 @@ pub struct Entry {
 }
 
 /// What the text has declared for the whole of it so far: all names with all enum names, in the order of
-/// their declarations, the kinds, the globals, and the routines. It grows from part to part, since an
+/// their declarations, the kinds, the globals, and the routines with the weights of their bodies. It grows from part to part, since an
 /// enum may be written in any type.
 #[derive(Drop)]
 pub struct Known {
@@ -40,6 +40,7 @@ pub struct Known {
     pub kinds: Items<Kind>,
     pub globals: Items<Variable>,
     pub routines: Items<Routine>,
+    pub weights: Items<u64>,
 }
 
 /// Where a part stands: the names of the scopes around it within the whole text, the innermost last; how
