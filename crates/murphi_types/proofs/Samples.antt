@@ -7,6 +7,8 @@ use Rattle.murphi_types.specs.Constants.{is_constant}
 use Rattle.murphi_types.specs.Typing.{found}
 use Rattle.murphi_types.specs.Repeats.{enum_names, type_repeats}
 use Rattle.murphi_types.specs.Uses.{uses_in}
+use Rattle.murphi_types.specs.Statements.{stmt_found}
+use Rattle.murphi_types.specs.WorkedStatements.{WeightsAreAsWorked, AssignmentsAreAsWorked, BodiesAreAsWorked}
 use Rattle.murphi_types.specs.WorkedDeclarations.{DeclarationsAreAsWorked, LocalsAreAsWorked, RepeatsAreAsWorked, ArgumentsAreAsWorked}
 use Rattle.murphi_types.specs.Worked.{ExpressionsAreAsWorked, DesignatorsAreAsWorked, CallsAreAsWorked, QuantifiersAreAsWorked, ConstantsAreAsWorked, TypesAreAsWorked}
 
@@ -49,3 +51,15 @@ repeats = (refl, refl, refl)
 pub arguments : ArgumentsAreAsWorked
 unfolding found place_of has_parts
 arguments = (refl, refl, refl, refl, refl, refl)
+
+pub weights : WeightsAreAsWorked
+unfolding found place_of type_place_of is_constant value_of
+weights = (refl, refl, refl, refl, refl, refl, refl)
+
+pub assignments : AssignmentsAreAsWorked
+unfolding found place_of type_place_of is_constant value_of has_parts stmt_found
+assignments = (refl, refl, refl, refl, refl, refl, refl, refl, refl, refl, refl, refl, refl, refl)
+
+pub bodies : BodiesAreAsWorked
+unfolding found place_of type_place_of is_constant value_of has_parts stmt_found
+bodies = (refl, refl, refl, refl, refl, refl, refl, refl, refl, refl, refl, refl, refl, refl, refl, refl)

@@ -19,3 +19,4 @@ pub mod Lists
 pub mod Statements
 pub mod Worked
 pub mod WorkedDeclarations
+pub mod WorkedStatements

@@ -3,7 +3,7 @@
 ghost use Rattle.murphi_types.specs.Worked.{ExpressionsAreAsWorked, DesignatorsAreAsWorked, CallsAreAsWorked, QuantifiersAreAsWorked, ConstantsAreAsWorked, TypesAreAsWorked};
 ghost use Rattle.murphi_types.specs.WorkedDeclarations.{DeclarationsAreAsWorked, LocalsAreAsWorked, RepeatsAreAsWorked, ArgumentsAreAsWorked};
 ghost use Rattle.murphi_types.specs.Lemmas.{lemma_faults, lemma_typed};
-ghost use Rattle.murphi_types.specs.Statements.{stmt_found};
+ghost use Rattle.murphi_types.specs.WorkedStatements.{WeightsAreAsWorked, AssignmentsAreAsWorked, BodiesAreAsWorked};
 
 /// The worked cases of typing come out as they were worked out by hand.
 pub fn worked_cases()
@@ -17,4 +17,7 @@ pub fn worked_cases()
     ensures locals { LocalsAreAsWorked }
     ensures repeats { RepeatsAreAsWorked }
     ensures arguments { ArgumentsAreAsWorked }
+    ensures weights { WeightsAreAsWorked }
+    ensures assignments { AssignmentsAreAsWorked }
+    ensures bodies { BodiesAreAsWorked }
 {}

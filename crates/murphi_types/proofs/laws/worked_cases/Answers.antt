@@ -1,4 +1,4 @@
-use Rattle.murphi_types.proofs.Samples.{expressions, designators, calls, quantifiers, constants, types, declarations, locals, repeats, arguments}
+use Rattle.murphi_types.proofs.Samples.{expressions, designators, calls, quantifiers, constants, types, declarations, locals, repeats, arguments, weights, assignments, bodies}
 use Rattle.murphi_types.proofs.laws.worked_cases.Goals as goal
 
 pub returns-clause-expressions : goal.returns-clause-expressions
@@ -30,3 +30,12 @@ returns-clause-repeats c = repeats
 
 pub returns-clause-arguments : goal.returns-clause-arguments
 returns-clause-arguments c = arguments
+
+pub returns-clause-weights : goal.returns-clause-weights
+returns-clause-weights c = weights
+
+pub returns-clause-assignments : goal.returns-clause-assignments
+returns-clause-assignments c = assignments
+
+pub returns-clause-bodies : goal.returns-clause-bodies
+returns-clause-bodies c = bodies
