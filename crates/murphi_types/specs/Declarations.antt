@@ -16,6 +16,7 @@ use Rattle.murphi_types.specs.declared.scope.Meaning.TheVariants as meaning
 use Rattle.murphi_types.specs.declared.scope.Known.{Known}
 use Rattle.murphi_types.specs.declared.scope.Scope.{Scope}
 use Rattle.murphi_types.specs.Places.{place_of}
+use Rattle.murphi_types.specs.Leaves.{leaf_faults}
 use Rattle.murphi_types.specs.Scopes.{entry, with_name}
 use Rattle.murphi_types.specs.Constants.{is_constant}
 use Rattle.murphi_types.specs.Types.{FoundType, FoundNumber, Naming, As, AsNodes, Unnamed, number_found}
@@ -78,9 +79,18 @@ declare_variables globally [] type d = d
 declare_variables globally (n ∷ ns) type d =
     declare_variables globally ns type (declare_variable globally n.name type d)
 
+-- the variables that are counted together: all globals, or the locals of one body
+abbrev pub counted : Bool → Declared → List Variable
+counted true d = d.known.globals
+counted false d = d.locals
+
+abbrev pub with_limit : Bool → List Named → Declared → Declared
+with_limit globally names d = record d { faults = d.faults ++ leaf_faults names (counted globally d) }
+
 abbrev pub after_variables : Bool → List Named → Declared → FoundType → Declared
 after_variables globally names d f =
-    declare_variables globally names f.type (record d { known = f.known; faults = d.faults ++ f.faults })
+    with_limit globally names
+    (declare_variables globally names f.type (record d { known = f.known; faults = d.faults ++ f.faults }))
 
 -- a declaration of a constant, a type or variables; routines are declared elsewhere
 abbrev pub declared : Bool → Decl → Declared → Declared

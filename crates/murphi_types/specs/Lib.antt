@@ -11,12 +11,14 @@ pub mod Designators
 pub mod Calls
 pub mod Types
 pub mod Typing
+pub mod Leaves
 pub mod Declarations
 pub mod Repeats
 pub mod Uses
 pub mod Lemmas
 pub mod Lists
 pub mod Statements
+pub mod Routines
 pub mod Worked
 pub mod WorkedDeclarations
 pub mod WorkedStatements

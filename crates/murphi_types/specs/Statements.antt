@@ -297,3 +297,9 @@ unfoldable mutual
       with_more (labels_found scope k on labels)
       (λ f. with_more (stmts_found leaving scope f.known body) (λ b. cases_found leaving scope b.known on rest)
       (case_made f)) (λ f g. g)
+
+-- the statements of a body, where they stand in a list
+abbrev pub body_found : Leaving → Scope → Known → List Stmt → FoundStmts
+body_found leaving scope k [] = no_stmts k
+body_found leaving scope k (first ∷ rest) =
+    with_more (stmt_found leaving scope k first) (λ f. body_found leaving scope f.known rest) stmts_made
