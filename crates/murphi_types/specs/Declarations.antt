@@ -22,13 +22,14 @@ use Rattle.murphi_types.specs.Constants.{is_constant}
 use Rattle.murphi_types.specs.Types.{FoundType, FoundNumber, Naming, As, AsNodes, Unnamed, number_found}
 use Rattle.murphi_types.specs.Typing.{found, type_found}
 
--- what declarations leave: the names in scope, what is declared for the whole text, the locals so far, and the
--- faults
+-- what declarations leave: the names in scope, what is declared for the whole text, the locals so far, the faults
+-- of typing, and those of leaves, which an ill-typed item has not
 pub record Declared : Type 0 where
   pub scope : Scope
   pub known : Known
   pub locals : List Variable
   pub faults : List Fault
+  pub limits : List Fault
 
 -- one more name, for the whole text or in the innermost scope
 abbrev pub declare : Bool → Name → Meaning → Declared → Declared
@@ -85,7 +86,7 @@ counted true d = d.known.globals
 counted false d = d.locals
 
 abbrev pub with_limit : Bool → List Named → Declared → Declared
-with_limit globally names d = record d { faults = d.faults ++ leaf_faults names (counted globally d) }
+with_limit globally names d = record d { limits = d.limits ++ leaf_faults names (counted globally d) }
 
 abbrev pub after_variables : Bool → List Named → Declared → FoundType → Declared
 after_variables globally names d f =

@@ -19,6 +19,7 @@ pub mod Lemmas
 pub mod Lists
 pub mod Statements
 pub mod Routines
+pub mod Items
 pub mod Worked
 pub mod WorkedDeclarations
 pub mod WorkedStatements

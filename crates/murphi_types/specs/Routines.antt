@@ -115,7 +115,8 @@ row_declared end_of-Decl d = d
 row_declared (more_of-Decl one rest) d = row_declared rest (declared false one d)
 
 abbrev pub locals_of : Scope → FoundResult → List Fault → Declared
-locals_of s r faults = record { scope = s; known = r.known; locals = []; faults = faults ++ r.faults }
+locals_of s r faults =
+    record { scope = s; known = r.known; locals = []; faults = faults ++ r.faults; limits = [] }
 
 -- what a routine leaves for the rest of the text: its name, itself, and the weight of its body
 abbrev pub routine_meaning : Bool → ℕ → Meaning
@@ -149,7 +150,7 @@ routine_made name f r d body =
     record {
       known = with_routine body.known (is_clear (d.faults ++ body.faults)) (typed_routine name f r d body)
           body.weight;
-      faults = d.faults ++ body.faults;
+      faults = d.faults ++ (d.limits ++ body.faults);
     }
 
 abbrev pub routine_body : Name → FoundFormals → FoundResult → List Stmt → Declared → FoundRoutine
@@ -163,7 +164,8 @@ abbrev pub no_formals : Scope → Bool → Known → FoundFormals
 no_formals s in_function k =
     record { scope = record s { in_function = in_function }; known = k; formals = []; faults = [] }
 
-abbrev pub routine_found : {n : _} → Scope → Known → Named → List Formal → Option TypeExpr → Row_of-Decl n → List Stmt → FoundRoutine
+abbrev pub routine_found : {n : _} → Scope → Known → Named → List Formal → Option TypeExpr → Row_of-Decl n →
+    List Stmt → FoundRoutine
 routine_found s k name formals result locals body =
     routine_with name.name result locals body (formals_found formals (no_formals s (is_some result) k))
   where

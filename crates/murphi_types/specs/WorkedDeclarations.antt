@@ -38,6 +38,7 @@ at_first =
       known = nothing_known;
       locals = [];
       faults = [];
+      limits = [];
     }
 
 abbrev pub after : List Decl → Declared

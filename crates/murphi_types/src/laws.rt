@@ -4,6 +4,7 @@ ghost use Rattle.murphi_types.specs.Worked.{ExpressionsAreAsWorked, DesignatorsA
 ghost use Rattle.murphi_types.specs.WorkedDeclarations.{DeclarationsAreAsWorked, LocalsAreAsWorked, RepeatsAreAsWorked, ArgumentsAreAsWorked};
 ghost use Rattle.murphi_types.specs.Lemmas.{lemma_faults, lemma_typed};
 ghost use Rattle.murphi_types.specs.Routines.{text_declared};
+ghost use Rattle.murphi_types.specs.Items.{items_found};
 ghost use Rattle.murphi_types.specs.WorkedStatements.{WeightsAreAsWorked, AssignmentsAreAsWorked, BodiesAreAsWorked};
 
 /// The worked cases of typing come out as they were worked out by hand.
