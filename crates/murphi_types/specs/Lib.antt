@@ -20,6 +20,8 @@ pub mod Lists
 pub mod Statements
 pub mod Routines
 pub mod Items
+pub mod Written
+pub mod Texts
 pub mod Worked
 pub mod WorkedDeclarations
 pub mod WorkedStatements

@@ -3,8 +3,7 @@
 ghost use Rattle.murphi_types.specs.Worked.{ExpressionsAreAsWorked, DesignatorsAreAsWorked, CallsAreAsWorked, QuantifiersAreAsWorked, ConstantsAreAsWorked, TypesAreAsWorked};
 ghost use Rattle.murphi_types.specs.WorkedDeclarations.{DeclarationsAreAsWorked, LocalsAreAsWorked, RepeatsAreAsWorked, ArgumentsAreAsWorked};
 ghost use Rattle.murphi_types.specs.Lemmas.{lemma_faults, lemma_typed};
-ghost use Rattle.murphi_types.specs.Routines.{text_declared};
-ghost use Rattle.murphi_types.specs.Items.{items_found};
+ghost use Rattle.murphi_types.specs.Texts.{refusal, typed_text};
 ghost use Rattle.murphi_types.specs.WorkedStatements.{WeightsAreAsWorked, AssignmentsAreAsWorked, BodiesAreAsWorked};
 
 /// The worked cases of typing come out as they were worked out by hand.
