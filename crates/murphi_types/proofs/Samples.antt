@@ -5,9 +5,13 @@ use Rattle.murphi_typed.specs.WellTyped.{has_parts}
 use Rattle.murphi_types.specs.Places.{place_of, type_place_of}
 use Rattle.murphi_types.specs.Constants.{is_constant}
 use Rattle.murphi_types.specs.Typing.{found}
-use Rattle.murphi_types.specs.Repeats.{enum_names, type_repeats}
+use Rattle.murphi_types.specs.Repeats.{enum_names, field_repeats, type_repeats}
 use Rattle.murphi_types.specs.Uses.{uses_in}
 use Rattle.murphi_types.specs.Statements.{stmt_found}
+use Rattle.murphi_types.specs.Leaves.{leaves}
+use Rattle.murphi_types.specs.Items.{item_found}
+use Rattle.murphi_types.specs.Written.{in_stmt, in_item, local_repeats}
+use Rattle.murphi_types.specs.WorkedTexts.{TextsAreAsWorked, LimitsAreAsWorked}
 use Rattle.murphi_types.specs.WorkedStatements.{WeightsAreAsWorked, AssignmentsAreAsWorked, BodiesAreAsWorked}
 use Rattle.murphi_types.specs.WorkedDeclarations.{DeclarationsAreAsWorked, LocalsAreAsWorked, RepeatsAreAsWorked, ArgumentsAreAsWorked}
 use Rattle.murphi_types.specs.Worked.{ExpressionsAreAsWorked, DesignatorsAreAsWorked, CallsAreAsWorked, QuantifiersAreAsWorked, ConstantsAreAsWorked, TypesAreAsWorked}
@@ -63,3 +67,11 @@ assignments = (refl, refl, refl, refl, refl, refl, refl, refl, refl, refl, refl,
 pub bodies : BodiesAreAsWorked
 unfolding found place_of type_place_of is_constant value_of has_parts stmt_found
 bodies = (refl, refl, refl, refl, refl, refl, refl, refl, refl, refl, refl, refl, refl, refl, refl, refl)
+
+pub texts : TextsAreAsWorked
+unfolding found place_of type_place_of is_constant value_of has_parts stmt_found item_found leaves enum_names field_repeats in_stmt in_item local_repeats
+texts = (refl, refl, refl, refl, refl, refl, refl, refl, refl, refl, refl)
+
+pub limits : LimitsAreAsWorked
+unfolding found place_of type_place_of is_constant value_of has_parts stmt_found item_found leaves enum_names field_repeats in_stmt in_item local_repeats
+limits = (refl, refl, refl, refl, refl, refl, refl)

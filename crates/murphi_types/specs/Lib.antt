@@ -25,3 +25,4 @@ pub mod Texts
 pub mod Worked
 pub mod WorkedDeclarations
 pub mod WorkedStatements
+pub mod WorkedTexts

@@ -29,6 +29,7 @@ use Rattle.murphi_types.specs.declared.scope.Scope.{Scope}
 use Rattle.murphi_types.specs.Forms.{ScalarsetForm}
 use Rattle.murphi_types.specs.Faults.{first_fault}
 use Rattle.murphi_types.specs.Places.{place_of}
+use Rattle.murphi_types.specs.Scopes.{or_else}
 use Rattle.murphi_types.specs.Declarations.{Declared}
 use Rattle.murphi_types.specs.Routines.{text_declared}
 use Rattle.murphi_types.specs.Items.{Around, FoundItems, items_found}
@@ -102,10 +103,6 @@ node_of_type uses node name _ = None
 abbrev pub node_of : List Span → Name → Decl → Option NodeType
 node_of uses node (decl.TypeName name body) = node_of_type uses node name body
 node_of uses node _ = None
-
-abbrev pub or_else : {A : Type 0} → Option A → Option A → Option A
-or_else (Some a) other = Some a
-or_else None other = other
 
 abbrev pub node_among : List Span → Name → List Decl → Option NodeType
 node_among uses node [] = None

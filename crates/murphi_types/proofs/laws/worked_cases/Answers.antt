@@ -1,4 +1,4 @@
-use Rattle.murphi_types.proofs.Samples.{expressions, designators, calls, quantifiers, constants, types, declarations, locals, repeats, arguments, weights, assignments, bodies}
+use Rattle.murphi_types.proofs.Samples.{expressions, designators, calls, quantifiers, constants, types, declarations, locals, repeats, arguments, weights, assignments, bodies, texts, limits}
 use Rattle.murphi_types.proofs.laws.worked_cases.Goals as goal
 
 pub returns-clause-expressions : goal.returns-clause-expressions
@@ -39,3 +39,9 @@ returns-clause-assignments c = assignments
 
 pub returns-clause-bodies : goal.returns-clause-bodies
 returns-clause-bodies c = bodies
+
+pub returns-clause-texts : goal.returns-clause-texts
+returns-clause-texts c = texts
+
+pub returns-clause-limits : goal.returns-clause-limits
+returns-clause-limits c = limits
