@@ -7,11 +7,12 @@ use Rattle.murphi_types.specs.Constants.{is_constant}
 use Rattle.murphi_types.specs.Typing.{found}
 use Rattle.murphi_types.specs.Repeats.{enum_names, field_repeats, type_repeats}
 use Rattle.murphi_types.specs.Uses.{uses_in}
+use Rattle.murphi_types.specs.TextUses.{stmt_uses, item_uses}
 use Rattle.murphi_types.specs.Statements.{stmt_found}
 use Rattle.murphi_types.specs.Leaves.{leaves}
 use Rattle.murphi_types.specs.Items.{item_found}
 use Rattle.murphi_types.specs.Written.{in_stmt, in_item, local_repeats}
-use Rattle.murphi_types.specs.WorkedTexts.{TextsAreAsWorked, LimitsAreAsWorked}
+use Rattle.murphi_types.specs.WorkedTexts.{TextsAreAsWorked, LimitsAreAsWorked, UsesAreAsWorked}
 use Rattle.murphi_types.specs.WorkedStatements.{WeightsAreAsWorked, AssignmentsAreAsWorked, BodiesAreAsWorked}
 use Rattle.murphi_types.specs.WorkedDeclarations.{DeclarationsAreAsWorked, LocalsAreAsWorked, RepeatsAreAsWorked, ArgumentsAreAsWorked}
 use Rattle.murphi_types.specs.Worked.{ExpressionsAreAsWorked, DesignatorsAreAsWorked, CallsAreAsWorked, QuantifiersAreAsWorked, ConstantsAreAsWorked, TypesAreAsWorked}
@@ -75,3 +76,7 @@ texts = (refl, refl, refl, refl, refl, refl, refl, refl, refl, refl, refl)
 pub limits : LimitsAreAsWorked
 unfolding found place_of type_place_of is_constant value_of has_parts stmt_found item_found leaves enum_names field_repeats in_stmt in_item local_repeats
 limits = (refl, refl, refl, refl, refl, refl, refl)
+
+pub uses : UsesAreAsWorked
+unfolding uses_in stmt_uses item_uses
+uses = (refl, refl, refl, refl, refl)

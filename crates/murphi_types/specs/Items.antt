@@ -2,6 +2,7 @@
 -- declares is seen in it alone, but for the names of enums.
 use Rattle.std.specs.Prelude.{ℕ, suc, ◌+◌, ◌*◌, nat_le, nat_lt, Bool, true, false, ◌&&◌, List, [], ◌∷◌, ◌++◌, map, filter, length, Option, None, Some, is_some, if◌then◌else◌}
 use Rattle.std.specs.Option.{option_map_or}
+use Rattle.std.specs.Str.{bytes_eq}
 use Rattle.murphi_ast.specs.declared.token.Span.{Span}
 use Rattle.murphi_ast.specs.declared.text.Text.{Text}
 use Rattle.murphi_ast.specs.declared.expr.Expr.{Expr}
@@ -31,6 +32,7 @@ use Rattle.murphi_types.specs.Faults.{lone, unless, is_clear}
 use Rattle.murphi_types.specs.Places.{place_of, type_place_of}
 use Rattle.murphi_types.specs.Scopes.{binding}
 use Rattle.murphi_types.specs.Fitting.{is_truth, simple_part}
+use Rattle.murphi_types.specs.Uses.{uses_of}
 use Rattle.murphi_types.specs.Weights.{turns, stopped, weight_faults}
 use Rattle.murphi_types.specs.Found.{Found, wanted}
 use Rattle.murphi_types.specs.Types.{FoundType, Unnamed, simple_wanted}
@@ -41,11 +43,13 @@ use Rattle.murphi_types.specs.Statements.{AtEnd, FoundStmts, body_found}
 -- Rulesets
 
 -- the rulesets around an item: the scope inside, the parameters from the outermost, and the first name of the list
--- that passes the limit of node parameters
+-- that passes the limit of node parameters; and the name of the constant that is the size of the node type, as long
+-- as no parameter hides it
 pub record Around : Type 0 where
   pub scope : Scope
   pub params : List Parameter
   pub past : Option Span
+  pub size : Option Name
 
 abbrev pub most_parameters : ℕ
 most_parameters = 3
@@ -59,12 +63,18 @@ abbrev pub with_parameter : Name → Option Simple → List Parameter → List P
 with_parameter name (Some over) params = params ++ record { name = name; over = over } ∷ []
 with_parameter name None params = params
 
+-- a parameter hides a name of the text
+abbrev pub seen_past : Name → Option Name → Option Name
+seen_past bound (Some name) = if bytes_eq bound name then None else Some name
+seen_past bound None = None
+
 abbrev pub bind_made : Bind → FoundBinds → FoundType → FoundBinds
 bind_made one b f =
     record {
       around = record b.around {
         scope = binding b.around.scope one.name.name (simple_part f.type);
         params = with_parameter one.name.name (simple_part f.type) b.around.params;
+        size = seen_past one.name.name b.around.size;
       };
       known = f.known;
       faults = b.faults ++ f.faults;
@@ -220,18 +230,18 @@ abbrev pub invariant_limits : Span → ℕ → Found → List Fault
 invariant_limits at count f =
     limits_of (is_some f.type) (instance_faults at count ++ weight_faults at f.weight)
 
-abbrev pub invariant_made : Around → Option Text → RuleDecl → Span → FoundItems → Found → FoundItems
-invariant_made around title one at items f =
+abbrev pub invariant_made : Around → Option Text → Expr → Span → FoundItems → Found → FoundItems
+invariant_made around title written at items f =
     record items {
       known = f.known;
-      written = items.written ++ one ∷ [];
+      written = items.written ++ r.Invariant title written at ∷ [];
       invariants = items.invariants ++ record {
         title = title_after (filter (is_of InvariantKind) items.written) title;
         params = around.params;
         body = f.tree;
         prefix = formula_prefix f.known.routines around.params f.tree;
         kinds = [];
-        uses = [];
+        uses = uses_of around.size written;
       } ∷ [];
       invariant_instances = items.invariant_instances + instances around.params;
       faults = items.faults ++ (f.faults
@@ -250,7 +260,7 @@ unfoldable mutual
       start_made around title (r.Start title locals body at) at items
       (item_body around.scope items.known None locals body)
   item_found around (r.Invariant title body at) items =
-      invariant_made around title (r.Invariant title body at) at items
+      invariant_made around title body at items
       (wanted is_truth (place_of body) (found around.scope items.known body))
   item_found around (r.Group' binds _ inner at) items =
       row_found (ruleset_found around items.known binds).around inner

@@ -26,7 +26,7 @@ use Rattle.murphi_types.specs.Fitting.{is_truth}
 use Rattle.murphi_types.specs.Found.{Found, wanted}
 use Rattle.murphi_types.specs.Typing.{found}
 use Rattle.murphi_types.specs.Repeats.{repeats, enum_names, field_repeats}
-use Rattle.murphi_types.specs.Uses.{uses_in}
+use Rattle.murphi_types.specs.Uses.{uses_of}
 use Rattle.murphi_types.specs.Weights.{weight_faults}
 
 -- what a global name of a typed protocol stands for
@@ -79,10 +79,6 @@ lemma_faults T weights body =
 abbrev pub size_name : WrittenSize → Option Name
 size_name (size.Constant name) = Some name
 size_name _ = None
-
-abbrev pub uses_of : Option Name → Expr → List Span
-uses_of (Some name) body = uses_in name body
-uses_of None body = []
 
 abbrev pub node_size_name : Option NodeType → Option Name
 node_size_name (Some node) = size_name node.size

@@ -21,6 +21,7 @@ pub mod Statements
 pub mod Routines
 pub mod Items
 pub mod Written
+pub mod TextUses
 pub mod Texts
 pub mod Worked
 pub mod WorkedDeclarations

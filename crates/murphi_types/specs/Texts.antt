@@ -34,6 +34,7 @@ use Rattle.murphi_types.specs.Declarations.{Declared}
 use Rattle.murphi_types.specs.Routines.{text_declared}
 use Rattle.murphi_types.specs.Items.{Around, FoundItems, items_found}
 use Rattle.murphi_types.specs.Written.{text_repeats}
+use Rattle.murphi_types.specs.TextUses.{text_uses}
 
 -- the names of all routines of a text
 abbrev pub routine_name : Decl → List Name
@@ -67,19 +68,8 @@ no_items k =
       faults = [];
     }
 
-abbrev pub around_nothing : Scope → Around
-around_nothing s = record { scope = s; params = []; past = None }
-
--- what its items leave
-abbrev pub items_of : Option Name → Protocol → FoundItems
-items_of node P =
-    items_found (around_nothing (text_scope node P)) P.rules (no_items (declarations_of node P).known)
-
--- all faults of a text that stand at a place
-abbrev pub faults_of : Option Name → Protocol → List Fault
-faults_of node P =
-    (declarations_of node P).faults
-    ++ ((declarations_of node P).limits ++ ((items_of node P).faults ++ text_repeats P.decls P.rules))
+abbrev pub around_nothing : Scope → Option Name → Around
+around_nothing s size = record { scope = s; params = []; past = None; size = size }
 
 -- The node type
 
@@ -89,24 +79,59 @@ written_size (e.Number n at) = size.Number
 written_size (NameForm name) = size.Constant name.name
 written_size _ = size.Other
 
--- a declaration of a type by this name directly as a scalarset; the uses of its size are gathered elsewhere
-abbrev pub node_of_type : List Span → Name → Named → TypeExpr → Option NodeType
-node_of_type uses node name (ScalarsetForm body at) =
-    if bytes_eq name.name node then Some (record {
+-- the size of a type of this name that is declared directly as a scalarset
+abbrev pub size_of_type : Name → Named → TypeExpr → Option Expr
+size_of_type node name (ScalarsetForm body at) = if bytes_eq name.name node then Some body else None
+size_of_type node name _ = None
+
+abbrev pub size_in : Name → Decl → Option Expr
+size_in node (decl.TypeName name body) = size_of_type node name body
+size_in node _ = None
+
+abbrev pub size_among : Name → List Decl → Option Expr
+size_among node [] = None
+size_among node (one ∷ rest) = or_else (size_in node one) (size_among node rest)
+
+-- the size of the node type, if its name is given and a global type of that name is declared as a scalarset
+abbrev pub node_size : Option Name → Protocol → Option Expr
+node_size (Some node) P = size_among node P.decls
+node_size None P = None
+
+-- the name of the constant that is the size
+abbrev pub constant_in : Option Expr → Option Name
+constant_in (Some (NameForm name)) = Some name.name
+constant_in _ = None
+
+abbrev pub size_name : Option Name → Protocol → Option Name
+size_name node P = constant_in (node_size node P)
+
+-- the uses of that constant, but for the declaration of the node type
+abbrev pub size_uses : Name → Option Name → Protocol → List Span
+size_uses node (Some name) P = text_uses node name P
+size_uses node None P = []
+
+abbrev pub node_type : Option Name → Protocol → Option Expr → Option NodeType
+node_type (Some node) P (Some body) =
+    Some (record {
       name = node;
       size = written_size body;
       size_at = place_of body;
-      uses = uses;
-    }) else None
-node_of_type uses node name _ = None
+      uses = size_uses node (constant_in (Some body)) P;
+    })
+node_type _ P _ = None
 
-abbrev pub node_of : List Span → Name → Decl → Option NodeType
-node_of uses node (decl.TypeName name body) = node_of_type uses node name body
-node_of uses node _ = None
+-- All faults
 
-abbrev pub node_among : List Span → Name → List Decl → Option NodeType
-node_among uses node [] = None
-node_among uses node (one ∷ rest) = or_else (node_of uses node one) (node_among uses node rest)
+-- what its items leave
+abbrev pub items_of : Option Name → Protocol → FoundItems
+items_of node P =
+    items_found (around_nothing (text_scope node P) (size_name node P)) P.rules (no_items (declarations_of node P).known)
+
+-- all faults of a text that stand at a place
+abbrev pub faults_of : Option Name → Protocol → List Fault
+faults_of node P =
+    (declarations_of node P).faults
+    ++ ((declarations_of node P).limits ++ ((items_of node P).faults ++ text_repeats P.decls P.rules))
 
 -- Refusals
 
@@ -119,7 +144,7 @@ pub data Refusal : Type 0 where
 
 abbrev pub no_node : Option Name → Protocol → Bool
 no_node None P = false
-no_node (Some node) P = if is_some (node_among [] node P.decls) then false else true
+no_node (Some node) P = if is_some (size_among node P.decls) then false else true
 
 abbrev pub has_no_start : FoundItems → Bool
 has_no_start items = is_none items.starts
@@ -155,17 +180,13 @@ entity_of meaning.Refused = entity.Variable 0
 abbrev pub declared_name : Entry → typed.Declared
 declared_name one = record { name = one.name; what = entity_of one.what }
 
-abbrev pub named_node : List Span → Option Name → List Decl → Option NodeType
-named_node uses (Some node) decls = node_among uses node decls
-named_node uses None decls = None
-
--- the typed protocol of a text that is not refused, given the uses of the constant that is the size of the node type
-abbrev pub typed_text : List Span → Option Name → Protocol → Typed
-typed_text uses node P =
+-- the typed protocol of a text that is not refused
+abbrev pub typed_text : Option Name → Protocol → Typed
+typed_text node P =
     record {
       names = map declared_name (items_of node P).known.names;
       kinds = (items_of node P).known.kinds;
-      node = named_node uses node P.decls;
+      node = node_type node P (node_size node P);
       globals = (items_of node P).known.globals;
       routines = (items_of node P).known.routines;
       starts = (items_of node P).starts;

@@ -1,7 +1,7 @@
 -- The places where a name of the whole text is used, in text order: where it stands for a value or a variable, and
 -- nothing inner hides it. The constant that is the size of the node type is held against the symmetry rules by
 -- these. A field is no use, and neither is a called name.
-use Rattle.std.specs.Prelude.{List, [], ◌∷◌, ◌++◌, if◌then◌else◌}
+use Rattle.std.specs.Prelude.{List, [], ◌∷◌, ◌++◌, if◌then◌else◌, Option, None, Some}
 use Rattle.std.specs.Str.{bytes_eq}
 use Rattle.murphi_ast.specs.declared.token.Span.{Span}
 use Rattle.murphi_ast.specs.declared.expr.Named.{Named}
@@ -64,3 +64,8 @@ unfoldable mutual
   pub field_uses : {n : _} → Name → Row_of-FieldDecl n → List Span
   field_uses name end_of-FieldDecl = []
   field_uses name (more_of-FieldDecl names body rest) = type_uses name body ++ field_uses name rest
+
+-- the uses of a name, if there is one
+abbrev pub uses_of : Option Name → Expr → List Span
+uses_of (Some name) body = uses_in name body
+uses_of None body = []

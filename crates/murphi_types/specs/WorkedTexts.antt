@@ -30,7 +30,8 @@ use Rattle.murphi_types.specs.declared.fault.Quantity.TheVariants as quantity
 use Rattle.murphi_types.specs.declared.fault.Cause.{Cause}
 use Rattle.murphi_types.specs.declared.fault.Cause.TheVariants as cause
 use Rattle.murphi_types.specs.Forms.{ScalarsetForm, ArrayForm}
-use Rattle.murphi_types.specs.Texts.{Refusal, Placed, NoNodeType, NoStart, refusal, items_of}
+use Rattle.murphi_types.specs.Texts.{Refusal, Placed, NoNodeType, NoStart, refusal, items_of, size_name}
+use Rattle.murphi_types.specs.TextUses.{text_uses}
 use Rattle.murphi_types.specs.Worked.{here, named, name, number, truth, equal, range, enum}
 use Rattle.murphi_types.specs.WorkedDeclarations.{type_name, variables}
 use Rattle.murphi_types.specs.WorkedStatements.{plain}
@@ -150,3 +151,27 @@ LimitsAreAsWorked =
     -- two rules with one string: the second has its number for a title
     × (map (λ (one : Rule). one.title) (items_of None (text [] (rule 10 [] [] ∷ rule 40 [] [] ∷ []))).rules
     ≡ codes "R" ∷ numbered 2 ∷ [])
+
+-- `const K : 3; type NODE : scalarset(K);`
+abbrev pub k_decl : Decl
+k_decl = decl.Constant (named (codes "K") 7) (number 3 11)
+
+abbrev pub k_node : Decl
+k_node = type_name NODE (ScalarsetForm (name (codes "K") 23) (here 13))
+
+abbrev pub uses_of_size : Protocol → List Span
+uses_of_size P = text_uses NODE (codes "K") P
+
+abbrev pub UsesAreAsWorked : Type 0
+UsesAreAsWorked =
+    -- the declaration of the node type is no use; a bound is one
+    (uses_of_size (text (k_decl ∷ k_node ∷ []) []) ≡ [])
+    × (uses_of_size (text (k_decl ∷ k_node ∷ variables (named (codes "c") 50 ∷ [])
+    (range (number 0 54) (name (codes "K") 57)) ∷ []) []) ≡ here 57 ∷ [])
+    -- a local hides it from the end of its declaration on
+    × (uses_of_size (text (k_decl ∷ k_node ∷ []) (rule 40 (variables (named (codes "K") 45 ∷ [])
+    (range (number 0 48) (name (codes "K") 51)) ∷ []) (w.Assign (plain (codes "K") 60) (name (codes "K") 65) ∷ []) ∷ []))
+    ≡ here 51 ∷ [])
+    -- a name that is given for the node type, and the constant that is its size
+    × (size_name (Some NODE) (text (k_decl ∷ k_node ∷ []) []) ≡ Some (codes "K"))
+    × (size_name (Some NODE) (text (node_decl ∷ []) []) ≡ None)

@@ -1,4 +1,4 @@
-use Rattle.murphi_types.proofs.Samples.{expressions, designators, calls, quantifiers, constants, types, declarations, locals, repeats, arguments, weights, assignments, bodies, texts, limits}
+use Rattle.murphi_types.proofs.Samples.{expressions, designators, calls, quantifiers, constants, types, declarations, locals, repeats, arguments, weights, assignments, bodies, texts, limits, uses}
 use Rattle.murphi_types.proofs.laws.worked_cases.Goals as goal
 
 pub returns-clause-expressions : goal.returns-clause-expressions
@@ -45,3 +45,6 @@ returns-clause-texts c = texts
 
 pub returns-clause-limits : goal.returns-clause-limits
 returns-clause-limits c = limits
+
+pub returns-clause-uses : goal.returns-clause-uses
+returns-clause-uses c = uses
