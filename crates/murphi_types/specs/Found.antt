@@ -1,5 +1,5 @@
--- What is found of an expression: its type, the typed expression, its weight, what is declared for the whole text after it,
--- and all its faults. A part in which anything is wrong has no type; its tree then says nothing.
+-- What is found of an expression: its type, the typed expression, its weight, what is declared for the whole text
+-- after it, and all its faults. A part in which anything is wrong has no type; its tree then says nothing.
 use Rattle.std.specs.Prelude.{ℕ, suc, ◌+◌, Bool, true, ◌&&◌, List, [], ◌∷◌, ◌++◌, Option, Some, is_some}
 use Rattle.term_core.specs.declared.value.Value.{Value}
 use Rattle.murphi_ast.specs.declared.token.Span.{Span}
@@ -131,4 +131,5 @@ link_found op f g =
 -- operands of one level, from left to right: the whole is of the type of the operands
 abbrev pub chain_found : Simple → Found → FoundLinks → Found
 chain_found type f g =
-    whole (is_some f.type && g.typed) type (x.Chain f.tree g.trees) (suc (f.weight + g.weight)) g.known (f.faults ++ g.faults)
+    whole (is_some f.type && g.typed) type (x.Chain f.tree g.trees) (suc (f.weight + g.weight)) g.known
+    (f.faults ++ g.faults)

@@ -1,6 +1,6 @@
 -- Items: rules, start states and invariants, in the rulesets around them, in text order. What a rule or start state
 -- declares is seen in it alone, but for the names of enums.
-use Rattle.std.specs.Prelude.{ℕ, suc, ◌+◌, ◌*◌, nat_le, nat_lt, Bool, true, false, ◌&&◌, List, [], ◌∷◌, ◌++◌, map, filter, length, Option, None, Some, is_some, if◌then◌else◌}
+use Rattle.std.specs.Prelude.{ℕ, ◌+◌, ◌*◌, nat_le, nat_lt, Bool, false, List, [], ◌∷◌, ◌++◌, filter, Option, None, Some, is_some, if◌then◌else◌}
 use Rattle.std.specs.Option.{option_map_or}
 use Rattle.std.specs.Str.{bytes_eq}
 use Rattle.murphi_ast.specs.declared.token.Span.{Span}
@@ -14,7 +14,6 @@ use Rattle.murphi_ast.specs.declared.rule.RuleDecl.{RuleDecl, Row_of-RuleDecl, e
 use Rattle.murphi_ast.specs.Title.{is_of, RuleKind, StartKind, InvariantKind, title_after}
 use Rattle.murphi_typed.specs.Families.{Name}
 use Rattle.murphi_typed.specs.declared.types.Simple.{Simple}
-use Rattle.murphi_typed.specs.declared.types.Simple.TheVariants as simple
 use Rattle.murphi_typed.specs.declared.stmt.Stmt as s
 use Rattle.murphi_typed.specs.declared.protocol.Parameter.{Parameter}
 use Rattle.murphi_typed.specs.declared.protocol.Guard.{Guard}
@@ -22,7 +21,6 @@ use Rattle.murphi_typed.specs.declared.protocol.Rule.{Rule}
 use Rattle.murphi_typed.specs.declared.protocol.Start.{Start}
 use Rattle.murphi_typed.specs.declared.protocol.TypedFormula.{TypedFormula}
 use Rattle.murphi_typed.specs.Prefix.{node_parameters, formula_prefix, rule_prefix}
-use Rattle.murphi_types.specs.declared.fault.Quantity.{Quantity}
 use Rattle.murphi_types.specs.declared.fault.Quantity.TheVariants as quantity
 use Rattle.murphi_types.specs.declared.fault.Cause.TheVariants as cause
 use Rattle.murphi_types.specs.declared.fault.Fault.{Fault}
@@ -252,6 +250,7 @@ abbrev pub entered : FoundItems → FoundBinds → FoundItems
 entered items b = record items { known = b.known; faults = items.faults ++ b.faults }
 
 unfoldable mutual
+  -- an item inside these rulesets, after the items before it
   pub item_found : Around → RuleDecl → FoundItems → FoundItems
   item_found around (r.Rule title guard locals body at) items =
       rule_made around title (r.Rule title guard locals body at) at items

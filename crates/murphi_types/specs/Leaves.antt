@@ -1,7 +1,6 @@
 -- Leaves: the cells of variables with one node. Those of all globals, and those of the locals of one routine, rule or
 -- start state, are limited; formals do not count.
-use Rattle.std.specs.Prelude.{ℕ, ◌+◌, ◌*◌, nat_le, Bool, true, false, not, ◌||◌, List, [], ◌∷◌, Option, None, Some, is_some}
-use Rattle.murphi_ast.specs.declared.token.Span.{Span}
+use Rattle.std.specs.Prelude.{ℕ, ◌+◌, ◌*◌, nat_le, List, [], ◌∷◌}
 use Rattle.murphi_ast.specs.declared.expr.Named.{Named}
 use Rattle.murphi_typed.specs.declared.types.AnyType as t
 use Rattle.murphi_typed.specs.declared.types.AnyType.{AnyType, Row_of-Field, end_of-Field, more_of-Field}

@@ -1,7 +1,6 @@
 -- Routines: formals, result, locals and body, in text order. A routine is declared from its end on, so it is called
 -- only after it.
-use Rattle.std.specs.Prelude.{ℕ, Bool, true, false, not, ◌&&◌, ◌||◌, List, [], ◌∷◌, ◌++◌, length, Option, None, Some, is_some, is_none, if◌then◌else◌}
-use Rattle.murphi_ast.specs.declared.token.Span.{Span}
+use Rattle.std.specs.Prelude.{ℕ, Bool, true, false, not, ◌&&◌, List, [], ◌∷◌, ◌++◌, length, Option, None, Some, is_some}
 use Rattle.murphi_ast.specs.declared.expr.Named.{Named}
 use Rattle.murphi_ast.specs.declared.expr.TypeExpr.{TypeExpr}
 use Rattle.murphi_ast.specs.declared.stmt.Stmt.{Stmt}
@@ -24,7 +23,7 @@ use Rattle.murphi_types.specs.declared.scope.Known.{Known}
 use Rattle.murphi_types.specs.declared.scope.Scope.{Scope}
 use Rattle.murphi_types.specs.Faults.{unless, is_clear}
 use Rattle.murphi_types.specs.Places.{type_place_of}
-use Rattle.murphi_types.specs.Scopes.{entry, with_name}
+use Rattle.murphi_types.specs.Scopes.{entry}
 use Rattle.murphi_types.specs.Fitting.{simple_part}
 use Rattle.murphi_types.specs.Types.{FoundType, Unnamed, simple_wanted}
 use Rattle.murphi_types.specs.Typing.{type_found}

@@ -1,10 +1,8 @@
 -- Statements: what is found of each where it stands. A body hands on what its enums declare for the whole text.
-use Rattle.std.specs.Prelude.{suc, ◌+◌, ◌*◌, ℕ, Bool, true, false, not, ◌&&◌, ◌||◌, List, [], ◌∷◌, ◌++◌, length, Option, None, Some, is_some, unwrap_or, if◌then◌else◌}
+use Rattle.std.specs.Prelude.{suc, ◌+◌, ◌*◌, ℕ, Bool, true, false, not, ◌||◌, List, [], ◌∷◌, ◌++◌, length, Option, None, Some, unwrap_or, if◌then◌else◌}
 use Rattle.murphi_ast.specs.declared.token.Span.{Span}
 use Rattle.murphi_ast.specs.declared.expr.Expr as e
 use Rattle.murphi_ast.specs.declared.expr.Expr.{Expr}
-use Rattle.murphi_ast.specs.declared.expr.Bind.{Bind}
-use Rattle.murphi_ast.specs.declared.expr.Designator.{Designator}
 use Rattle.murphi_ast.specs.declared.stmt.Stmt as w
 use Rattle.murphi_ast.specs.declared.stmt.Stmt.{Stmt, Row_of-Stmt, end_of-Stmt, more_of-Stmt, Row_of-Arm, end_of-Arm, more_of-Arm, Row_of-Case, end_of-Case, more_of-Case}
 use Rattle.murphi_typed.specs.declared.types.Simple.{Simple}
@@ -19,7 +17,6 @@ use Rattle.murphi_typed.specs.declared.stmt.Stmt as s
 use Rattle.murphi_typed.specs.declared.stmt.Arm.{Arm}
 use Rattle.murphi_typed.specs.declared.stmt.Case.{Case}
 use Rattle.murphi_typed.specs.declared.protocol.Routine.{Routine}
-use Rattle.murphi_typed.specs.WellTyped.{only_if}
 use Rattle.murphi_types.specs.declared.fault.Cause.TheVariants as cause
 use Rattle.murphi_types.specs.declared.fault.Fault.{Fault}
 use Rattle.murphi_types.specs.declared.scope.Known.{Known}
@@ -27,10 +24,10 @@ use Rattle.murphi_types.specs.declared.scope.Scope.{Scope}
 use Rattle.murphi_types.specs.Faults.{lone, unless}
 use Rattle.murphi_types.specs.Places.{place_of, type_place_of}
 use Rattle.murphi_types.specs.Scopes.{looked, binding}
-use Rattle.murphi_types.specs.Fitting.{fits, is_simple, is_truth, is_comparable, simple_part, as_value}
+use Rattle.murphi_types.specs.Fitting.{fits, is_simple, is_truth, is_comparable, simple_part}
 use Rattle.murphi_types.specs.Weights.{turns_of}
 use Rattle.murphi_types.specs.Found.{Found, with_more, wanted}
-use Rattle.murphi_types.specs.Designators.{Start, Rooted, Fixed, Nowhere, FoundPlace, designator_of, read_tree, read_found, start_type, place_made}
+use Rattle.murphi_types.specs.Designators.{Start, Rooted, FoundPlace, designator_of, read_tree, start_type, place_made}
 use Rattle.murphi_types.specs.Calls.{Callee, FoundArguments, callee_of, formals_of, count_fits, is_function, value_fits, may_write}
 use Rattle.murphi_types.specs.Types.{FoundType, Unnamed, simple_wanted}
 use Rattle.murphi_types.specs.Typing.{found, selectors_found, type_found}
@@ -256,19 +253,24 @@ left scope k leaving at _ = one_stmt (s.Leave at) 0 k (lone cause.E11 at)
 unfoldable mutual
   -- a statement, in a body that may be left so
   pub stmt_found : Leaving → Scope → Known → Stmt → FoundStmts
+  -- `to := body`
   stmt_found leaving scope k (w.Assign to body) = assigned scope (place_found scope k to) body
+  -- a call of a procedure that was declared before
   stmt_found leaving scope k (w.Call name args) =
       with_more (callee_of scope k name (looked scope k name.name))
       (λ c. list_arguments scope k name.at (formals_of c) args) (called scope.in_function name.at)
+  -- the tests of an `if` are truth values; what a `switch` is on is simple, and its labels are of that type
   stmt_found leaving scope k (w.If' _ arms _ otherwise at) =
       with_more (arms_found leaving scope k arms) (λ f. stmts_found leaving scope f.known otherwise) (if_made at)
   stmt_found leaving scope k (w.Switch' on _ cases _ otherwise at) =
       with_more (wanted is_simple (place_of on) (found scope k on))
       (λ f. with_more (cases_found leaving scope f.known f.type cases)
       (λ g. stmts_found leaving scope g.known otherwise) (switch_made at f)) (λ f g. g)
+  -- the variable of a `for` has a simple type and is seen in its body alone
   stmt_found leaving scope k (w.For' bind _ body at) =
       with_more (simple_wanted (type_place_of bind.over) (type_found scope k Unnamed bind.over))
       (λ f. stmts_found leaving (binding scope bind.name.name (simple_part f.type)) f.known body) (for_made at)
+  -- the others
   stmt_found leaving scope k (w.Clear place at) = cleared scope.in_function at (place_found scope k place)
   stmt_found leaving scope k (w.Undefine place at) = undefined scope.in_function at (place_found scope k place)
   stmt_found leaving scope k (w.Error at) = one_stmt (s.Error at) 0 k []

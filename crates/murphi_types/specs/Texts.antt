@@ -1,6 +1,6 @@
 -- Whole texts: all faults of a protocol, its refusal, and the typed protocol that it gives.
-use Rattle.std.specs.Prelude.{ℕ, Bool, true, false, List, [], ◌∷◌, ◌++◌, map, Option, None, Some, is_some, if◌then◌else◌}
-use Rattle.std.specs.List.{flat_map, list_any}
+use Rattle.std.specs.Prelude.{Bool, true, false, List, [], ◌∷◌, ◌++◌, map, Option, None, Some, is_some, if◌then◌else◌}
+use Rattle.std.specs.List.{flat_map}
 use Rattle.std.specs.Str.{bytes_eq}
 use Rattle.murphi_ast.specs.declared.token.Span.{Span}
 use Rattle.murphi_ast.specs.declared.expr.Named.{Named}
@@ -125,7 +125,8 @@ node_type _ P _ = None
 -- what its items leave
 abbrev pub items_of : Option Name → Protocol → FoundItems
 items_of node P =
-    items_found (around_nothing (text_scope node P) (size_name node P)) P.rules (no_items (declarations_of node P).known)
+    items_found (around_nothing (text_scope node P) (size_name node P)) P.rules
+    (no_items (declarations_of node P).known)
 
 -- all faults of a text that stand at a place
 abbrev pub faults_of : Option Name → Protocol → List Fault

@@ -33,34 +33,44 @@ chain_operands end_of-Link = numbers
 chain_operands (more_of-Link op operand rest) = operand_type op
 
 unfoldable mutual
-  -- an expression
+  -- an expression. A number is of the type of all numbers, a truth value of that of truth values.
   pub found : Scope → Known → Expr → Found
   found s k (e.Number n at) = literal numbers (value.Number (pos n)) k
   found s k (e.Truth b at) = literal simple.Truth (value.Truth b) k
+  -- a name with fields and indices: the value that it stands for, or a read of its cell
   found s k (e.Place' name _ row) =
       read_found (with_more (start_type name.at (looked s k name.name))
       (λ c. selectors_found s k name.at c.type row) (place_made name.at (looked s k name.name)))
+  -- `isundefined(d)`: d has a simple type
   found s k (e.IsUndefined' name _ row at) =
       undefined_found (with_more (start_type name.at (looked s k name.name))
       (λ c. selectors_found s k name.at c.type row) (place_made name.at (looked s k name.name)))
+  -- a call: a function that was declared before, one argument that fits for each formal
   found s k (e.Call' name _ args) =
       with_more (callee_of s k name (looked s k name.name))
       (λ c. arguments_found s k name.at (formals_of c) args) (call_found s.in_function name.at)
+  -- `! body` of a truth value, `- body` of a number
   found s k (NotForm body at) = not_found (wanted is_truth (place_of body) (found s k body))
   found s k (MinusForm body at) = minus_found (wanted is_number (place_of body) (found s k body))
+  -- operands of one level: all truth values, or all numbers
   found s k (e.Chain' _ (more_of-Expr first end_of-Expr) _ rest) =
       with_more (wanted (has_values_of (chain_operands rest)) (place_of first) (found s k first))
       (λ f. links_found s f.known (chain_operands rest) rest) (chain_found (chain_operands rest))
+  -- a comparison: simple values of one type by `=` and `!=`, numbers by the others; of two unlike operands the right
+  -- is wrong
   found s k (CompareForm op left right) =
       with_more (wanted (left_fits (is_equality op)) (place_of left) (found s k left))
       (λ f. wanted (right_fits (is_equality op) f.type) (place_of right) (found s f.known right)) (compare_found op)
+  -- `left -> right` of truth values
   found s k (ImpliesForm left right) =
       with_more (wanted is_truth (place_of left) (found s k left))
       (λ f. wanted is_truth (place_of right) (found s f.known right)) implies_found
+  -- `test ? then' : else'`: a truth value, and two simple values of one type
   found s k (ChoiceForm test then' else') =
       with_more (wanted is_truth (place_of test) (found s k test))
       (λ f. with_more (wanted (left_fits true) (place_of then') (found s f.known then'))
       (λ g. wanted (right_fits true g.type) (place_of else') (found s g.known else')) parts_found) choice_found
+  -- a quantifier: its variable has a simple type and is seen in its body alone, which is a truth value
   found s k (QuantifiedForm all name over body at) =
       with_more (simple_wanted (type_place_of over) (type_found s k Unnamed over))
       (λ f. wanted is_truth (place_of body) (found (binding s name.name (simple_part f.type)) f.known body))
@@ -95,15 +105,19 @@ unfoldable mutual
 
   -- a type; `naming` is for a scalarset that stands directly behind a name
   pub type_found : Scope → Known → Naming → TypeExpr → FoundType
+  -- a name of a type, and `boolean`
   type_found s k naming (t.Known name) = type_made k [] (named_type name.at (looked s k name.name))
   type_found s k naming (t.Truth at) = type_made k [] (chosen (typ.Simple simple.Truth))
+  -- `low .. high`, of two constants that are numbers
   type_found s k naming (RangeForm low high) =
       with_more (number_found (is_constant s k low) (place_of low) (found s k low))
       (λ f. number_found (is_constant s f.known high) (place_of high) (found s f.known high))
       (range_found (place_of low))
+  -- an enum, and a scalarset, whose size is a constant that is a number
   type_found s k naming (t.Listed names at) = enum_found at names k
   type_found s k naming (ScalarsetForm size at) =
       scalarset_found naming at (number_found (is_constant s k size) (place_of size) (found s k size))
+  -- a record, and an array, whose index type is simple
   type_found s k naming (t.Fields' _ fields at) = record_found (fields_found s k fields)
   type_found s k naming (ArrayForm index item at) =
       with_more (simple_wanted (type_place_of index) (type_found s k Unnamed index))

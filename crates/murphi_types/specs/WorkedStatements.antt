@@ -1,26 +1,22 @@
 -- Worked cases of weights and of statements, beside the text of the other worked cases.
-use Rattle.std.specs.Prelude.{◌≡◌, codes, ℕ, Bool, true, false, List, [], ◌∷◌, pos, negsuc, Option, None, Some}
+use Rattle.std.specs.Prelude.{◌≡◌, codes, ℕ, true, List, [], ◌∷◌, Option, None, Some}
 use Rattle.term_core.specs.declared.value.Value.TheVariants as value
 use Rattle.murphi_ast.specs.declared.expr.ChainOp.TheVariants as op
 use Rattle.murphi_ast.specs.declared.expr.Expr.{Expr}
 use Rattle.murphi_ast.specs.declared.expr.Designator.{Designator}
-use Rattle.murphi_ast.specs.declared.expr.Selector as part
-use Rattle.murphi_ast.specs.declared.expr.TypeExpr as t
 use Rattle.murphi_ast.specs.declared.stmt.Stmt as w
 use Rattle.murphi_ast.specs.declared.stmt.Stmt.{Stmt, end_of-Stmt, more_of-Stmt, end_of-Arm, more_of-Arm, end_of-Case, more_of-Case}
 use Rattle.murphi_typed.specs.Families.{Name}
 use Rattle.murphi_typed.specs.declared.types.Simple.TheVariants as simple
-use Rattle.murphi_typed.specs.declared.types.AnyType as typ
 use Rattle.murphi_typed.specs.declared.expr.Root.TheVariants as root
 use Rattle.murphi_typed.specs.declared.expr.Expr as x
 use Rattle.murphi_typed.specs.declared.expr.Designator as d
 use Rattle.murphi_typed.specs.declared.stmt.Stmt as s
 use Rattle.murphi_types.specs.declared.fault.Cause.TheVariants as cause
 use Rattle.murphi_types.specs.declared.fault.Fault.{Fault}
-use Rattle.murphi_types.specs.declared.scope.Scope.{Scope}
 use Rattle.murphi_types.specs.Faults.{first_fault}
 use Rattle.murphi_types.specs.Typing.{found}
-use Rattle.murphi_types.specs.Statements.{Leaving, AtEnd, ByReturn, WithValue, stmt_found}
+use Rattle.murphi_types.specs.Statements.{AtEnd, ByReturn, WithValue, stmt_found}
 use Rattle.murphi_types.specs.Worked.{here, named, fault, name, number, truth, chain, item, field, range, outside, inside, known, every, undefined, call_with}
 
 abbrev pub weight : Expr → ℕ

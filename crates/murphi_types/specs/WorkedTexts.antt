@@ -1,9 +1,7 @@
 -- Worked cases of whole texts: their refusals and parts of their typed protocols. A place is a column of line 1.
-use Rattle.std.specs.Prelude.{◌≡◌, codes, ℕ, true, false, List, [], ◌∷◌, map, length, pos, Option, None, Some}
+use Rattle.std.specs.Prelude.{◌≡◌, codes, ℕ, true, List, [], ◌∷◌, map, pos, Option, None, Some}
 use Rattle.murphi_ast.specs.declared.token.Span.{Span}
-use Rattle.murphi_ast.specs.declared.expr.Named.{Named}
 use Rattle.murphi_ast.specs.declared.expr.Bind.{Bind}
-use Rattle.murphi_ast.specs.declared.expr.Expr.{Expr}
 use Rattle.murphi_ast.specs.declared.expr.TypeExpr as t
 use Rattle.murphi_ast.specs.declared.expr.TypeExpr.{TypeExpr}
 use Rattle.murphi_ast.specs.declared.stmt.Stmt as w
@@ -24,7 +22,6 @@ use Rattle.murphi_typed.specs.Forms as typed
 use Rattle.murphi_ast.specs.Title.{numbered}
 use Rattle.murphi_types.specs.Faults.{first_fault}
 use Rattle.murphi_types.specs.Leaves.{leaf_faults}
-use Rattle.murphi_typed.specs.declared.protocol.Start.{Start}
 use Rattle.murphi_types.specs.declared.fault.Quantity.{Quantity}
 use Rattle.murphi_types.specs.declared.fault.Quantity.TheVariants as quantity
 use Rattle.murphi_types.specs.declared.fault.Cause.{Cause}

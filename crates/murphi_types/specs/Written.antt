@@ -1,8 +1,7 @@
 -- The expressions and types that are written directly in statements, declarations and items, in text order; and from
 -- these the names that are declared twice in one scope of a text.
-use Rattle.std.specs.Prelude.{ℕ, List, [], ◌∷◌, ◌++◌, Option, None, Some}
+use Rattle.std.specs.Prelude.{List, [], ◌∷◌, ◌++◌, Option, None, Some}
 use Rattle.std.specs.List.{flat_map}
-use Rattle.std.specs.Option.{option_map_or}
 use Rattle.murphi_ast.specs.declared.expr.Named.{Named}
 use Rattle.murphi_ast.specs.declared.expr.Expr.{Expr}
 use Rattle.murphi_ast.specs.declared.expr.Bind.{Bind}

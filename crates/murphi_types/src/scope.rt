@@ -32,8 +32,8 @@ pub struct Entry {
 }
 
 /// What the text has declared for the whole of it so far: all names with all enum names, in the order of
-/// their declarations, the kinds, the globals, and the routines with the weights of their bodies. It grows from part to part, since an
-/// enum may be written in any type.
+/// their declarations, the kinds, the globals, and the routines with the weights of their bodies. It
+/// grows from part to part, since an enum may be written in any type.
 #[derive(Drop)]
 pub struct Known {
     pub names: Items<Entry>,
