@@ -12,7 +12,7 @@ use Rattle.murphi_types.specs.Statements.{stmt_found}
 use Rattle.murphi_types.specs.Leaves.{leaves}
 use Rattle.murphi_types.specs.Items.{item_found}
 use Rattle.murphi_types.specs.Written.{in_stmt, in_item, local_repeats}
-use Rattle.murphi_types.specs.WorkedTexts.{TextsAreAsWorked, LimitsAreAsWorked, UsesAreAsWorked}
+use Rattle.murphi_types.specs.WorkedTexts.{TextsAreAsWorked, LimitsAreAsWorked, UsesAreAsWorked, RoutinesAreAsWorked, LemmasAreAsWorked}
 use Rattle.murphi_types.specs.WorkedStatements.{WeightsAreAsWorked, AssignmentsAreAsWorked, BodiesAreAsWorked}
 use Rattle.murphi_types.specs.WorkedDeclarations.{DeclarationsAreAsWorked, LocalsAreAsWorked, RepeatsAreAsWorked, ArgumentsAreAsWorked}
 use Rattle.murphi_types.specs.Worked.{ExpressionsAreAsWorked, DesignatorsAreAsWorked, CallsAreAsWorked, QuantifiersAreAsWorked, ConstantsAreAsWorked, TypesAreAsWorked}
@@ -80,3 +80,11 @@ limits = (refl, refl, refl, refl, refl, refl, refl)
 pub uses : UsesAreAsWorked
 unfolding uses_in stmt_uses item_uses
 uses = (refl, refl, refl, refl, refl)
+
+pub routines : RoutinesAreAsWorked
+unfolding found place_of type_place_of is_constant value_of has_parts stmt_found item_found leaves enum_names field_repeats in_stmt in_item local_repeats
+routines = (refl, refl, refl, refl, refl)
+
+pub lemmas : LemmasAreAsWorked
+unfolding found place_of type_place_of is_constant value_of has_parts stmt_found item_found leaves enum_names field_repeats in_stmt in_item local_repeats
+lemmas = (refl, refl, refl, refl, refl, refl, refl, refl)

@@ -1,13 +1,15 @@
 -- Worked cases of whole texts: their refusals and parts of their typed protocols. A place is a column of line 1.
-use Rattle.std.specs.Prelude.{◌≡◌, codes, ℕ, true, List, [], ◌∷◌, map, pos, Option, None, Some}
+use Rattle.std.specs.Prelude.{◌≡◌, codes, ℕ, Bool, true, false, List, [], ◌∷◌, map, pos, Option, None, Some}
 use Rattle.murphi_ast.specs.declared.token.Span.{Span}
 use Rattle.murphi_ast.specs.declared.expr.Bind.{Bind}
+use Rattle.murphi_ast.specs.declared.expr.Expr.{Expr}
 use Rattle.murphi_ast.specs.declared.expr.TypeExpr as t
 use Rattle.murphi_ast.specs.declared.expr.TypeExpr.{TypeExpr}
 use Rattle.murphi_ast.specs.declared.stmt.Stmt as w
 use Rattle.murphi_ast.specs.declared.stmt.Stmt.{Stmt}
 use Rattle.murphi_ast.specs.declared.decl.Decl as decl
-use Rattle.murphi_ast.specs.declared.decl.Decl.{Decl, end_of-Decl}
+use Rattle.murphi_ast.specs.declared.decl.Decl.{Decl, end_of-Decl, more_of-Decl}
+use Rattle.murphi_ast.specs.declared.decl.Formal.{Formal}
 use Rattle.murphi_ast.specs.declared.rule.RuleDecl as r
 use Rattle.murphi_ast.specs.declared.rule.RuleDecl.{RuleDecl, end_of-RuleDecl, more_of-RuleDecl}
 use Rattle.murphi_ast.specs.declared.rule.Protocol.{Protocol}
@@ -17,10 +19,15 @@ use Rattle.murphi_typed.specs.declared.types.Simple.TheVariants as simple
 use Rattle.murphi_typed.specs.declared.types.AnyType as typ
 use Rattle.murphi_typed.specs.declared.types.AnyType.{AnyType}
 use Rattle.murphi_typed.specs.declared.protocol.Variable.{Variable}
+use Rattle.murphi_typed.specs.declared.types.Kind.TheVariants as kind
+use Rattle.murphi_typed.specs.declared.protocol.Entity.TheVariants as entity
+use Rattle.murphi_typed.specs.declared.protocol.Typed.{Typed}
 use Rattle.murphi_typed.specs.declared.protocol.Rule.{Rule}
 use Rattle.murphi_typed.specs.Forms as typed
 use Rattle.murphi_ast.specs.Title.{numbered}
+use Rattle.murphi_types.specs.declared.fault.Fault.{Fault}
 use Rattle.murphi_types.specs.Faults.{first_fault}
+use Rattle.murphi_types.specs.Lemmas.{lemma_faults, lemma_typed}
 use Rattle.murphi_types.specs.Leaves.{leaf_faults}
 use Rattle.murphi_types.specs.declared.fault.Quantity.{Quantity}
 use Rattle.murphi_types.specs.declared.fault.Quantity.TheVariants as quantity
@@ -29,7 +36,7 @@ use Rattle.murphi_types.specs.declared.fault.Cause.TheVariants as cause
 use Rattle.murphi_types.specs.Forms.{ScalarsetForm, ArrayForm}
 use Rattle.murphi_types.specs.Texts.{Refusal, Placed, NoNodeType, NoStart, refusal, items_of, size_name}
 use Rattle.murphi_types.specs.TextUses.{text_uses}
-use Rattle.murphi_types.specs.Worked.{here, named, name, number, truth, equal, range, enum}
+use Rattle.murphi_types.specs.Worked.{here, named, name, number, truth, equal, range, enum, every, fault}
 use Rattle.murphi_types.specs.WorkedDeclarations.{type_name, variables}
 use Rattle.murphi_types.specs.WorkedStatements.{plain}
 
@@ -172,3 +179,71 @@ UsesAreAsWorked =
     -- a name that is given for the node type, and the constant that is its size
     × (size_name (Some NODE) (text (k_decl ∷ k_node ∷ []) []) ≡ Some (codes "K"))
     × (size_name (Some NODE) (text (node_decl ∷ []) []) ≡ None)
+
+-- `function f(formals) : type; begin end;`, and a formal
+abbrev pub function : List Formal → TypeExpr → Decl
+function formals type = decl.Routine' (named (codes "f") 10) formals (Some type) [] end_of-Decl []
+
+abbrev pub formal_at : Bool → Name → ℕ → TypeExpr → Formal
+formal_at by_place text column over =
+    record { by_place = by_place; names = named text column ∷ []; body = over }
+
+abbrev pub RoutinesAreAsWorked : Type 0
+RoutinesAreAsWorked =
+    -- a function has no `var` formals, and its result has a simple type
+    (alone (text (function (formal_at true (codes "a") 16 (t.Truth (here 20)) ∷ []) (t.Truth (here 30)) ∷ [])
+    (start 70 [] ∷ [])) ≡ placed cause.E10 16)
+    × (alone (text (function [] (ArrayForm (t.Truth (here 37)) (t.Truth (here 49)) (here 30)) ∷ [])
+    (start 70 [] ∷ [])) ≡ placed cause.E07 30)
+    -- a formal and a local of one name; a formal with the name of a global
+    × (alone (text (decl.Routine' (named (codes "P") 11) (formal_at false (codes "a") 13 (t.Truth (here 17)) ∷ []) None
+    (tt ∷ []) (more_of-Decl (variables (named (codes "a") 31 ∷ []) (t.Truth (here 35))) end_of-Decl) [] ∷ [])
+    (start 70 [] ∷ [])) ≡ placed cause.E06 31)
+    × (alone (text (x_decl ∷ decl.Routine' (named (codes "P") 31) (formal_at true (codes "x") 37 (t.Truth (here 41)) ∷ [])
+    None [] end_of-Decl (set_x 60 ∷ []) ∷ []) (start 70 [] ∷ [])) ≡ None)
+    -- a formal by value is not assigned
+    × (alone (text (decl.Routine' (named (codes "P") 31) (formal_at false (codes "x") 37 (t.Truth (here 41)) ∷ [])
+    None [] end_of-Decl (set_x 60 ∷ []) ∷ []) (start 70 [] ∷ [])) ≡ placed cause.E14 60)
+
+-- `forall i : 0..255 do forall j : 0..255 do x end end`
+abbrev pub heavy : Expr
+heavy =
+    every (codes "i") 40 (range (number 0 44) (number 255 47))
+    (every (codes "j") 60 (range (number 0 64) (number 255 67)) (name (codes "x") 80))
+
+-- a typed protocol with one boolean global x and one enum name A
+abbrev pub beside : Typed
+beside =
+    record {
+      names = record { name = codes "x"; what = entity.Variable 0 } ∷ record {
+        name = codes "A";
+        what = entity.Member 0 0 1;
+      } ∷ [];
+      kinds = kind.Listed (codes "A" ∷ []) ∷ [];
+      node = None;
+      globals = record { name = codes "x"; of = typ.Simple simple.Truth } ∷ [];
+      routines = [];
+      starts = [];
+      rules = [];
+      invariants = [];
+    }
+
+abbrev pub lemma : Expr → Option Fault
+lemma body = first_fault (lemma_faults beside [] body)
+
+abbrev pub LemmasAreAsWorked : Type 0
+LemmasAreAsWorked =
+    -- a weight of 65,793, in an invariant and in a lemma
+    (alone (text (x_decl ∷ []) (start 1 [] ∷ r.Invariant None heavy (here 30) ∷ []))
+    ≡ over_limit quantity.Weight 65793 10000 30)
+    × (lemma heavy ≡ Some (record { cause = cause.E16 quantity.Weight 65793 10000; at = here 1 }))
+    -- `x`, `z`, `1`
+    × (lemma (name (codes "x") 5) ≡ None)
+    × (lemma (name (codes "z") 5) ≡ fault cause.E05 5)
+    × (lemma (number 1 5) ≡ fault cause.E07 5)
+    -- `forall i : enum { B } do i = B end` has a kind of its own; with A it declares a global name again
+    × (lemma (every (codes "i") 8 (enum 12 (named (codes "B") 19 ∷ [])) (equal (name (codes "i") 26) (name (codes "B") 30)))
+    ≡ None)
+    × ((lemma_typed beside [] (every (codes "i") 8 (enum 12 (named (codes "B") 19 ∷ [])) (truth true 26))).kinds
+    ≡ kind.Listed (codes "B" ∷ []) ∷ [])
+    × (lemma (every (codes "i") 8 (enum 12 (named (codes "A") 19 ∷ [])) (truth true 26)) ≡ fault cause.E06 19)

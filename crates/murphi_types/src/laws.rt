@@ -5,7 +5,7 @@ ghost use Rattle.murphi_types.specs.WorkedDeclarations.{DeclarationsAreAsWorked,
 ghost use Rattle.murphi_types.specs.Lemmas.{lemma_faults, lemma_typed};
 ghost use Rattle.murphi_types.specs.Texts.{refusal, typed_text};
 ghost use Rattle.murphi_types.specs.WorkedStatements.{WeightsAreAsWorked, AssignmentsAreAsWorked, BodiesAreAsWorked};
-ghost use Rattle.murphi_types.specs.WorkedTexts.{TextsAreAsWorked, LimitsAreAsWorked, UsesAreAsWorked};
+ghost use Rattle.murphi_types.specs.WorkedTexts.{TextsAreAsWorked, LimitsAreAsWorked, UsesAreAsWorked, RoutinesAreAsWorked, LemmasAreAsWorked};
 
 /// The worked cases of typing come out as they were worked out by hand.
 pub fn worked_cases()
@@ -25,4 +25,6 @@ pub fn worked_cases()
     ensures texts { TextsAreAsWorked }
     ensures limits { LimitsAreAsWorked }
     ensures uses { UsesAreAsWorked }
+    ensures routines { RoutinesAreAsWorked }
+    ensures lemmas { LemmasAreAsWorked }
 {}

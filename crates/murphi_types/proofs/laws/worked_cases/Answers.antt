@@ -1,4 +1,4 @@
-use Rattle.murphi_types.proofs.Samples.{expressions, designators, calls, quantifiers, constants, types, declarations, locals, repeats, arguments, weights, assignments, bodies, texts, limits, uses}
+use Rattle.murphi_types.proofs.Samples.{expressions, designators, calls, quantifiers, constants, types, declarations, locals, repeats, arguments, weights, assignments, bodies, texts, limits, uses, routines, lemmas}
 use Rattle.murphi_types.proofs.laws.worked_cases.Goals as goal
 
 pub returns-clause-expressions : goal.returns-clause-expressions
@@ -48,3 +48,9 @@ returns-clause-limits c = limits
 
 pub returns-clause-uses : goal.returns-clause-uses
 returns-clause-uses c = uses
+
+pub returns-clause-routines : goal.returns-clause-routines
+returns-clause-routines c = routines
+
+pub returns-clause-lemmas : goal.returns-clause-lemmas
+returns-clause-lemmas c = lemmas
