@@ -7,11 +7,18 @@ use Rattle.murphi_types.specs.Constants.{is_constant}
 use Rattle.murphi_types.specs.Typing.{found}
 use Rattle.murphi_types.specs.Repeats.{enum_names, field_repeats, type_repeats}
 use Rattle.murphi_types.specs.Uses.{uses_in}
-use Rattle.murphi_types.specs.TextUses.{stmt_uses, item_uses}
 use Rattle.murphi_types.specs.Statements.{stmt_found}
 use Rattle.murphi_types.specs.Leaves.{leaves}
 use Rattle.murphi_types.specs.Items.{item_found}
 use Rattle.murphi_types.specs.Written.{in_stmt, in_item, local_repeats}
+use Rattle.murphi_types.specs.WorkedProtocol.{ProtocolIsAsWorked}
+use Rattle.murphi_typed.specs.declared.types.AnyType.TheBlock.{shape-the_row-AnyType-1, hidden-the_row-AnyType-1, hidden-the_row-Field-0}
+use Rattle.murphi_typed.specs.declared.expr.Argument.TheBlock.{shape-the_row-Expr-2, hidden-the_row-Expr-2, hidden-the_row-Link-3}
+use Rattle.murphi_typed.specs.declared.stmt.Stmt.TheBlock.{hidden-the_row-Stmt-0}
+use denote.Hole.Carrier.{hidden}
+use Rattle.murphi_typed.specs.Prefix.{depth_of, stmt_depth, up}
+use Rattle.murphi_typed.specs.WellTyped.{is_type, stmt_fits, type_of}
+use Rattle.murphi_types.specs.TextUses.{stmt_uses, item_uses}
 use Rattle.murphi_types.specs.WorkedTexts.{TextsAreAsWorked, LimitsAreAsWorked, UsesAreAsWorked, RoutinesAreAsWorked, LemmasAreAsWorked}
 use Rattle.murphi_types.specs.WorkedStatements.{WeightsAreAsWorked, AssignmentsAreAsWorked, BodiesAreAsWorked}
 use Rattle.murphi_types.specs.WorkedDeclarations.{DeclarationsAreAsWorked, LocalsAreAsWorked, RepeatsAreAsWorked, ArgumentsAreAsWorked}
@@ -88,3 +95,7 @@ routines = (refl, refl, refl, refl, refl)
 pub lemmas : LemmasAreAsWorked
 unfolding found place_of type_place_of is_constant value_of has_parts stmt_found item_found leaves enum_names field_repeats in_stmt in_item local_repeats
 lemmas = (refl, refl, refl, refl, refl, refl, refl, refl)
+
+pub protocol : ProtocolIsAsWorked
+unfolding found place_of type_place_of is_constant value_of has_parts stmt_found item_found leaves enum_names field_repeats in_stmt in_item local_repeats uses_in stmt_uses item_uses depth_of stmt_depth up is_type stmt_fits type_of shape-the_row-AnyType-1 hidden-the_row-AnyType-1 hidden-the_row-Field-0 shape-the_row-Expr-2 hidden-the_row-Expr-2 hidden-the_row-Link-3 hidden-the_row-Stmt-0 hidden
+protocol = (refl, refl, refl, refl, refl, refl, refl, refl, refl)

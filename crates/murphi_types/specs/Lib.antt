@@ -27,3 +27,4 @@ pub mod Worked
 pub mod WorkedDeclarations
 pub mod WorkedStatements
 pub mod WorkedTexts
+pub mod WorkedProtocol

@@ -6,6 +6,7 @@ ghost use Rattle.murphi_types.specs.Lemmas.{lemma_faults, lemma_typed};
 ghost use Rattle.murphi_types.specs.Texts.{refusal, typed_text};
 ghost use Rattle.murphi_types.specs.WorkedStatements.{WeightsAreAsWorked, AssignmentsAreAsWorked, BodiesAreAsWorked};
 ghost use Rattle.murphi_types.specs.WorkedTexts.{TextsAreAsWorked, LimitsAreAsWorked, UsesAreAsWorked, RoutinesAreAsWorked, LemmasAreAsWorked};
+ghost use Rattle.murphi_types.specs.WorkedProtocol.{ProtocolIsAsWorked};
 
 /// The worked cases of typing come out as they were worked out by hand.
 pub fn worked_cases()
@@ -27,4 +28,5 @@ pub fn worked_cases()
     ensures uses { UsesAreAsWorked }
     ensures routines { RoutinesAreAsWorked }
     ensures lemmas { LemmasAreAsWorked }
+    ensures protocol { ProtocolIsAsWorked }
 {}

@@ -1,4 +1,4 @@
-use Rattle.murphi_types.proofs.Samples.{expressions, designators, calls, quantifiers, constants, types, declarations, locals, repeats, arguments, weights, assignments, bodies, texts, limits, uses, routines, lemmas}
+use Rattle.murphi_types.proofs.Samples.{expressions, designators, calls, quantifiers, constants, types, declarations, locals, repeats, arguments, weights, assignments, bodies, texts, limits, uses, routines, lemmas, protocol}
 use Rattle.murphi_types.proofs.laws.worked_cases.Goals as goal
 
 pub returns-clause-expressions : goal.returns-clause-expressions
@@ -54,3 +54,6 @@ returns-clause-routines c = routines
 
 pub returns-clause-lemmas : goal.returns-clause-lemmas
 returns-clause-lemmas c = lemmas
+
+pub returns-clause-protocol : goal.returns-clause-protocol
+returns-clause-protocol c = protocol
