@@ -1,5 +1,5 @@
 -- A whole protocol, evaluated: mutex.m of the samples, with its rules Try and Crit.
-use Rattle.std.specs.Prelude.{◌≡◌, codes, ℕ, Bool, true, false, List, [], ◌∷◌, map, length, Option, None, Some}
+use Rattle.std.specs.Prelude.{◌≡◌, codes, ℕ, Bool, true, false, List, [], ◌∷◌, map, None, Some}
 use Rattle.murphi_ast.specs.declared.expr.ChainOp.TheVariants as op
 use Rattle.murphi_ast.specs.declared.expr.CompareOp.TheVariants as compare
 use Rattle.murphi_ast.specs.declared.expr.Bind.{Bind}
