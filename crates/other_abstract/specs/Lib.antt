@@ -1,0 +1,9 @@
+-- The words of the contracts of this crate, in reading order.
+pub mod Windows
+pub mod May
+pub mod Joining
+pub mod Images
+pub mod Machines
+pub mod Patterns
+pub mod Tests
+pub mod Laws
