@@ -1,2 +1,7 @@
 -- Lemmas.
 pub mod Samples
+pub mod TermLemmas
+pub mod Outcome
+pub mod ValueLemmas
+pub mod PlaceLemmas
+pub mod WriteLemmas
