@@ -5,3 +5,5 @@ pub mod Outcome
 pub mod ValueLemmas
 pub mod PlaceLemmas
 pub mod WriteLemmas
+pub mod NumberLemmas
+pub mod TypeLemmas

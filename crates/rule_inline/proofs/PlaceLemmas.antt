@@ -47,6 +47,11 @@ at_joined (Some v ∷ key) more ns ms long = ap (λ vs. v ∷ vs) (at_joined key
 at_joined (None ∷ key) more [] ms long = absurd (omega (arith, long))
 at_joined (None ∷ key) more (n ∷ ns) ms long = ap (λ vs. v.Node n ∷ vs) (at_joined key more ns ms (omega (arith, long)))
 
+-- a value of a list
+abbrev pub Has : List Value → Value → Type 0
+Has [] x = ⊥
+Has (w ∷ ws) x = (w ≡ x) ⊎ Has ws x
+
 module _ (N : ℕ) (s : Cells) where
   pub nodes_joined : (xs ys : List ℕ) → Nodes N s xs → Nodes N s ys → Nodes N s (xs ++ ys)
   nodes_joined [] ys a b = b
@@ -111,10 +116,6 @@ module _ (N : ℕ) (s : Cells) where
   Rep fr T c = (owner : Owner) (path : Path) (key : Key) (ns : List ℕ) → NoNodes key → length ns ≡ holes key → Nodes N s ns → value_of N s (fr ++ ns) (T (Family owner path key)) ≡ c owner path (at_nodes key ns)
 
   -- what the indices of a place lead to
-  abbrev pub Has : List Value → Value → Type 0
-  Has [] x = ⊥
-  Has (w ∷ ws) x = (w ≡ x) ⊎ Has ws x
-
   abbrev pub IndexIs : List ℕ → Index → Value → Type 0
   IndexIs fr (Axis mark i) x = (n : ℕ) × (x ≡ v.Node n) × (value_of N s fr i ≡ v.Node n) × (is_node N n ≡ true)
   IndexIs fr (Among ws i) x = (value_of N s fr i ≡ x) × Has ws x × (list_all is_no_node ws ≡ true)

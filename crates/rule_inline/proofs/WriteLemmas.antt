@@ -60,7 +60,7 @@ none_false true o e = absurd_false (sym e)
 none_false false o e = refl
 
 module _ (N : ℕ) (s : Cells) where
-  has_none : (ws : List Value) (x : Value) → Has N s ws x → list_all is_no_node ws ≡ true → is_no_node x ≡ true
+  has_none : (ws : List Value) (x : Value) → Has ws x → list_all is_no_node ws ≡ true → is_no_node x ≡ true
   has_none [] x has none = absurd has
   has_none (w ∷ ws) x (inl e) none = let (first, rest) = and_parts (is_no_node w) (list_all is_no_node ws) none in ap is_no_node (sym e) ∙ first
   has_none (w ∷ ws) x (inr has) none = let (first, rest) = and_parts (is_no_node w) (list_all is_no_node ws) none in has_none ws x has rest
