@@ -7,3 +7,5 @@ pub mod PlaceLemmas
 pub mod WriteLemmas
 pub mod NumberLemmas
 pub mod TypeLemmas
+pub mod ArithLemmas
+pub mod SceneLemmas
