@@ -9,3 +9,5 @@ pub mod NumberLemmas
 pub mod TypeLemmas
 pub mod ArithLemmas
 pub mod SceneLemmas
+pub mod QuantifierLemmas
+pub mod PartLemmas

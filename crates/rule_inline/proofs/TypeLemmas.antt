@@ -41,7 +41,7 @@ integers_one (pos a) (negsuc b) e = cc
 integers_one (negsuc a) (pos b) e = cc
 integers_one (negsuc a) (negsuc b) e = ap negsuc (nats_one a b e)
 
-simples_one : (a b : Simple) → same_simple a b ≡ true → a ≡ b
+pub simples_one : (a b : Simple) → same_simple a b ≡ true → a ≡ b
 simples_one simple.Truth simple.Truth e = refl
 simples_one (simple.Range l h) (simple.Range m k) e =
     let (first, second) = and_parts (same_number l m) (same_number h k) e in
