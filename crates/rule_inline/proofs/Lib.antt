@@ -11,3 +11,4 @@ pub mod ArithLemmas
 pub mod SceneLemmas
 pub mod QuantifierLemmas
 pub mod PartLemmas
+pub mod ExpressionLaw

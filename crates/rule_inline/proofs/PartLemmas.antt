@@ -65,25 +65,25 @@ simple_found (Some (type.Simple u)) s e = ap (λ w. Some (type.Simple w)) (some_
 simple_found (Some (type.Record' _ fields)) s e = not_some e
 simple_found (Some (type.Array' _ _ item)) s e = not_some e
 
-found_simple : (o : Option AnyType) → is_some (simple_part o) ≡ true → (s : Simple) × (o ≡ Some (type.Simple s))
+pub found_simple : (o : Option AnyType) → is_some (simple_part o) ≡ true → (s : Simple) × (o ≡ Some (type.Simple s))
 found_simple o e = go (simple_part o) refl e
   where
     go : (p : Option Simple) → simple_part o ≡ p → is_some p ≡ true → (s : Simple) × (o ≡ Some (type.Simple s))
     go None was e = absurd_false e
     go (Some s) was e = (s, simple_found o s was)
 
-widened_found : (o : Option AnyType) (s : Simple) → option_map widened (simple_part o) ≡ Some s → (u : Simple) × (o ≡ Some (type.Simple u)) × (widened u ≡ s)
+pub widened_found : (o : Option AnyType) (s : Simple) → option_map widened (simple_part o) ≡ Some s → (u : Simple) × (o ≡ Some (type.Simple u)) × (widened u ≡ s)
 widened_found o s e = go (simple_part o) refl e
   where
     go : (p : Option Simple) → simple_part o ≡ p → option_map widened p ≡ Some s → (u : Simple) × (o ≡ Some (type.Simple u)) × (widened u ≡ s)
     go None was e = not_some e
     go (Some u) was e = (u, simple_found o u was, some_one e)
 
-bound_found : (o : Option Simple) (s : Simple) → option_map widened o ≡ Some s → (u : Simple) × (o ≡ Some u)
+pub bound_found : (o : Option Simple) (s : Simple) → option_map widened o ≡ Some s → (u : Simple) × (o ≡ Some u)
 bound_found None s e = not_some e
 bound_found (Some u) s e = (u, refl)
 
-none_selected : {n : _} (scope : Scope) (rest : Row_of-Selector n) → selected_type scope None rest ≡ None
+pub none_selected : {n : _} (scope : Scope) (rest : Row_of-Selector n) → selected_type scope None rest ≡ None
 unfolding type_of
 none_selected scope end_of-Selector = refl
 none_selected scope (more_of-Selector (select.Field name) rest) = none_selected scope rest
@@ -93,18 +93,18 @@ none_selected scope (more_of-Selector (select.Index over index) rest) = ap (λ o
     go true = refl
     go false = refl
 
-none_chain : {n : _} (scope : Scope) (rest : Row_of-Link n) → chain_type scope None rest ≡ None
+pub none_chain : {n : _} (scope : Scope) (rest : Row_of-Link n) → chain_type scope None rest ≡ None
 unfolding type_of
 none_chain scope end_of-Link = refl
 none_chain scope (more_of-Link by operand rest) = none_chain scope rest
 
 -- the variable of a designator with a type has one
-rooted : {n : _} (scope : Scope) (o : Option AnyType) (rest : Row_of-Selector n) (U : AnyType) → selected_type scope o rest ≡ Some U → (W : AnyType) × (o ≡ Some W)
+pub rooted : {n : _} (scope : Scope) (o : Option AnyType) (rest : Row_of-Selector n) (U : AnyType) → selected_type scope o rest ≡ Some U → (W : AnyType) × (o ≡ Some W)
 rooted scope None rest U e = not_some (sym (none_selected scope rest) ∙ e)
 rooted scope (Some W) rest U e = (W, refl)
 
 -- what the operands of a comparison or a condition have in common
-equal_types : (left right : Option Simple) (s : Simple) → comparable compare.Equal left right ≡ true → left ≡ Some s → right ≡ Some s
+pub equal_types : (left right : Option Simple) (s : Simple) → comparable compare.Equal left right ≡ true → left ≡ Some s → right ≡ Some s
 equal_types None right s e is = not_some is
 equal_types (Some u) None s e is = absurd_false e
 equal_types (Some u) (Some w) s e is = ap Some (sym (simples_one u w e)) ∙ is
@@ -120,7 +120,7 @@ other_types : (left right : Option Simple) → comparable compare.NotEqual left 
 other_types None right e = absurd_false e
 other_types (Some s) right e = (s, s, refl, equal_types (Some s) right s e refl)
 
-comparable_types : (by : CompareOp) (left right : Option Simple) → comparable by left right ≡ true → (s : Simple) × (u : Simple) × (left ≡ Some s) × (right ≡ Some u)
+pub comparable_types : (by : CompareOp) (left right : Option Simple) → comparable by left right ≡ true → (s : Simple) × (u : Simple) × (left ≡ Some s) × (right ≡ Some u)
 comparable_types compare.Equal left right e = same_types left right e
 comparable_types compare.NotEqual left right e = other_types left right e
 comparable_types compare.Less left right e = numbers_of left right e
@@ -164,7 +164,7 @@ FunctionTells s types calls routines tcalls h =
     → Tells h.scene.nodes s h.fr (calls k h.scene h.at gs h.cells) ((tcalls k (at_frame h.fr h.site) h.T gifts).demands ++ demand ((tcalls k (at_frame h.fr h.site) h.T gifts).change.now Leaving) ∷ [])
     (λ left. (w : Value) × (left.result ≡ Some w) × (value_of h.scene.nodes s h.fr ((tcalls k (at_frame h.fr h.site) h.T gifts).change.now Result) ≡ w))
 
-operand_widened : (by : ChainOp) → widened (operand_type by) ≡ operand_type by
+pub operand_widened : (by : ChainOp) → widened (operand_type by) ≡ operand_type by
 operand_widened op.Or = refl
 operand_widened op.And = refl
 operand_widened op.Add = refl
@@ -173,12 +173,12 @@ operand_widened op.Times = refl
 operand_widened op.Divide = refl
 operand_widened op.Modulo = refl
 
-row_more : {n : _} (scope : Scope) (formals : List DeclaredFormal) (first : argument.Argument) (rest : Row_of-Argument n) → row_fits scope formals (more_of-Argument first rest) ≡ (argument_fits scope (first_of formals) first && row_fits scope (rest_of formals) rest)
+pub row_more : {n : _} (scope : Scope) (formals : List DeclaredFormal) (first : argument.Argument) (rest : Row_of-Argument n) → row_fits scope formals (more_of-Argument first rest) ≡ (argument_fits scope (first_of formals) first && row_fits scope (rest_of formals) rest)
 unfolding type_of
 row_more scope [] first rest = refl
 row_more scope (f ∷ fs) first rest = refl
 
-value_typed : (formal : Option DeclaredFormal) (o : Option Simple) → given_value formal o ≡ true → (u : Simple) × (o ≡ Some u)
+pub value_typed : (formal : Option DeclaredFormal) (o : Option Simple) → given_value formal o ≡ true → (u : Simple) × (o ≡ Some u)
 value_typed formal (Some u) e = (u, refl)
 value_typed None None e = absurd_false e
 value_typed (Some f) None e = absurd_false (sym (go (not f.by_place) (simple_part (Some f.of))) ∙ e)
@@ -188,7 +188,7 @@ value_typed (Some f) None e = absurd_false (sym (go (not f.by_place) (simple_par
     go true (Some u) = refl
     go false p = refl
 
-compound_typed : (formal : Option DeclaredFormal) (o : Option AnyType) → given_compound formal o ≡ true → (U : AnyType) × (o ≡ Some U)
+pub compound_typed : (formal : Option DeclaredFormal) (o : Option AnyType) → given_compound formal o ≡ true → (U : AnyType) × (o ≡ Some U)
 compound_typed formal (Some U) e = (U, refl)
 compound_typed None None e = absurd_false e
 compound_typed (Some f) None e = absurd_false (sym (go (not f.by_place) (is_compound f.of)) ∙ e)
@@ -198,7 +198,7 @@ compound_typed (Some f) None e = absurd_false (sym (go (not f.by_place) (is_comp
     go true false = refl
     go false c = refl
 
-place_typed : (formal : Option DeclaredFormal) (o : Option AnyType) → given_place formal o ≡ true → (U : AnyType) × (o ≡ Some U)
+pub place_typed : (formal : Option DeclaredFormal) (o : Option AnyType) → given_place formal o ≡ true → (U : AnyType) × (o ≡ Some U)
 place_typed formal (Some U) e = (U, refl)
 place_typed None None e = absurd_false e
 place_typed (Some f) None e = absurd_false (sym (go f.by_place) ∙ e)
@@ -207,28 +207,28 @@ place_typed (Some f) None e = absurd_false (sym (go f.by_place) ∙ e)
     go true = refl
     go false = refl
 
-each_map : {P Q : Value → Type 0} (xs : List Value) → ((y : Value) → P y → Q y) → EachValue P xs → EachValue Q xs
+pub each_map : {P Q : Value → Type 0} (xs : List Value) → ((y : Value) → P y → Q y) → EachValue P xs → EachValue Q xs
 each_map [] f e = tt
 each_map (y ∷ xs) f (p, e) = (f y p, each_map xs f e)
 
-leads_joined : (N : ℕ) (s : Cells) (fr : List ℕ) (is js : List Index) (xs ys : List Value) → Leads N s fr is xs → Leads N s fr js ys → Leads N s fr (is ++ js) (xs ++ ys)
+pub leads_joined : (N : ℕ) (s : Cells) (fr : List ℕ) (is js : List Index) (xs ys : List Value) → Leads N s fr is xs → Leads N s fr js ys → Leads N s fr (is ++ js) (xs ++ ys)
 leads_joined N s fr [] js [] ys p q = q
 leads_joined N s fr [] js (y ∷ xs) ys p q = absurd p
 leads_joined N s fr (i ∷ is) js [] ys p q = absurd p
 leads_joined N s fr (i ∷ is) js (y ∷ xs) ys (index, p) q = (index, leads_joined N s fr is js xs ys p q)
 
 -- what is known of a result beside what is told of it
-tells_got : (N : ℕ) (s : Cells) {A : Type 0} (fr : List ℕ) (qs : List Demand) (o : Outcome A) (P Q : A → Type 0) → Tells N s fr o qs P → ((y : A) → o ≡ Got y → P y → Q y) → Tells N s fr o qs Q
+pub tells_got : (N : ℕ) (s : Cells) {A : Type 0} (fr : List ℕ) (qs : List Demand) (o : Outcome A) (P Q : A → Type 0) → Tells N s fr o qs P → ((y : A) → o ≡ Got y → P y → Q y) → Tells N s fr o qs Q
 tells_got N s fr qs (Fault at) P Q bad next = bad
 tells_got N s fr qs (Got y) P Q (good, p) next = (good, next y refl p)
 
 -- One operator
 
 module _ (N : ℕ) (s : Cells) (fr : List ℕ) where
-  abbrev IsTold : Outcome Value → Valued → Type 0
+  abbrev pub IsTold : Outcome Value → Valued → Type 0
   IsTold o e = Tells N s fr o e.demands (λ y. value_of N s fr e.term ≡ y)
 
-  abbrev IsTyped : Simple → Outcome Value → Valued → Type 0
+  abbrev pub IsTyped : Simple → Outcome Value → Valued → Type 0
   IsTyped u o e = Tells N s fr o e.demands (λ y. (value_of N s fr e.term ≡ y) × (is_value N u y ≡ true))
 
   compared_value : (by : CompareOp) (left right : Term) (p q : Value) → value_of N s fr left ≡ p → value_of N s fr right ≡ q → value_of N s fr (compared_term by left right) ≡ v.Truth (compared by p q)
@@ -242,16 +242,16 @@ module _ (N : ℕ) (s : Cells) (fr : List ℕ) where
       go compare.Greater = value-Less N s fr right left
       go compare.GreaterEqual = value-Not N s fr (t.Less left right) ∙ ap (λ y. v.Truth (not (truth y))) (value-Less N s fr left right)
 
-  told_not : (o : Outcome Value) (e : Valued) → IsTold o e → IsTold (given o (λ y. Got (v.Truth (not (truth y))))) (negated e)
+  pub told_not : (o : Outcome Value) (e : Valued) → IsTold o e → IsTold (given o (λ y. Got (v.Truth (not (truth y))))) (negated e)
   told_not o e told = tells_then N s fr e.demands o (λ y. v.Truth (not (truth y))) _ _ told (λ y is. value-Not N s fr e.term ∙ ap (λ z. v.Truth (not (truth z))) is)
 
-  told_minus : (at : Span) (o : Outcome Value) (e : Valued) → IsTold o e → ((y : Value) → o ≡ Got y → is_value N numbers y ≡ true) → IsTold (given o (calculated at operation.Subtract (v.Number (pos 0)))) (calculated_term operation.Subtract (whole 0) e)
+  pub told_minus : (at : Span) (o : Outcome Value) (e : Valued) → IsTold o e → ((y : Value) → o ≡ Got y → is_value N numbers y ≡ true) → IsTold (given o (calculated at operation.Subtract (v.Number (pos 0)))) (calculated_term operation.Subtract (whole 0) e)
   told_minus at o e told fine =
       tells_given N s fr e.demands (map demand (result_fits operation.Subtract (whole 0) e.term)) o (calculated at operation.Subtract (v.Number (pos 0))) _ _ told
       (λ y was is. tells_map N s fr (map demand (result_fits operation.Subtract (whole 0) e.term)) (calculated at operation.Subtract (v.Number (pos 0)) y) _ _
       (tells_calculated N s fr at operation.Subtract (whole 0) e.term (v.Number (pos 0)) y (value-Known N s fr (v.Number (pos 0))) is (number_value N (pos 0) refl) (fine y was)) (λ z both. both.0))
 
-  told_compared : (by : CompareOp) (o p : Outcome Value) (e f : Valued) → IsTold o e → IsTold p f → IsTold (given o (λ y. given p (λ z. Got (v.Truth (compared by y z))))) (compared_values by e f)
+  pub told_compared : (by : CompareOp) (o p : Outcome Value) (e f : Valued) → IsTold o e → IsTold p f → IsTold (given o (λ y. given p (λ z. Got (v.Truth (compared by y z))))) (compared_values by e f)
   told_compared by o p e f first second =
       tells_given N s fr e.demands f.demands o _ _ _ first
       (λ y was is. tells_then N s fr f.demands p (λ z. v.Truth (compared by y z)) _ _ second (λ z is'. compared_value by e.term f.term y z is is'))
@@ -292,7 +292,7 @@ module _ (N : ℕ) (s : Cells) (fr : List ℕ) where
           tells_under N s fr left f.demands (given p (λ z. Got (as_truth z))) _ (ap truth is ∙ was)
           (tells_then N s fr f.demands p as_truth _ _ second (λ z is'. (and_two left f.term ∙ ap (λ b. v.Truth (b && (is_true N s fr f.term && true))) (ap truth is ∙ was) ∙ ap v.Truth (and_nothing (is_true N s fr f.term)) ∙ ap (λ u. v.Truth (truth u)) is', refl)))
 
-  told_implied : (o p : Outcome Value) (e f : Valued) → IsTold o e → IsTold p f → IsTold (given o (λ y. if truth y then given p (λ z. Got (as_truth z)) else Got (v.Truth true))) (implied (length fr) e f)
+  pub told_implied : (o p : Outcome Value) (e f : Valued) → IsTold o e → IsTold p f → IsTold (given o (λ y. if truth y then given p (λ z. Got (as_truth z)) else Got (v.Truth true))) (implied (length fr) e f)
   told_implied o p e f first second = tells_given N s fr e.demands (under_test (length fr) e.term f.demands) o _ _ _ first (λ y was is. go y is (truth y) refl)
     where
       go : (y : Value) → value_of N s fr e.term ≡ y → (b : Bool) → truth y ≡ b → Tells N s fr (if b then given p (λ z. Got (as_truth z)) else Got (v.Truth true)) (under_test (length fr) e.term f.demands) (λ z. value_of N s fr (t.Or (t.Not e.term ∷ f.term ∷ [])) ≡ z)
@@ -301,7 +301,7 @@ module _ (N : ℕ) (s : Cells) (fr : List ℕ) where
           tells_under N s fr e.term f.demands (given p (λ z. Got (as_truth z))) _ (ap truth is ∙ was)
           (tells_then N s fr f.demands p as_truth _ _ second (λ z is'. or_two (t.Not e.term) f.term ∙ ap (λ b. v.Truth (b || (is_true N s fr f.term || false))) (not_is e.term true (ap truth is ∙ was)) ∙ ap v.Truth (or_nothing (is_true N s fr f.term)) ∙ ap (λ u. v.Truth (truth u)) is'))
 
-  told_choice : (o p q : Outcome Value) (e f g : Valued) → IsTold o e → IsTold p f → IsTold q g → IsTold (given o (λ y. if truth y then p else q)) (choice (length fr) e f g)
+  pub told_choice : (o p q : Outcome Value) (e f g : Valued) → IsTold o e → IsTold p f → IsTold q g → IsTold (given o (λ y. if truth y then p else q)) (choice (length fr) e f g)
   told_choice o p q e f g first second third = tells_given N s fr e.demands (under_test (length fr) e.term f.demands ++ under_test (length fr) (t.Not e.term) g.demands) o _ _ _ first (λ y was is. go y is (truth y) refl)
     where
       chosen_is : (b : Bool) → is_true N s fr e.term ≡ b → value_of N s fr (t.If e.term f.term g.term) ≡ cond b (value_of N s fr f.term) (value_of N s fr g.term)
@@ -330,7 +330,7 @@ module _ (N : ℕ) (s : Cells) (fr : List ℕ) where
   told_joined at op.Divide left y p f is fine second typed = arith_told at operation.Divide left y p f is fine second typed
   told_joined at op.Modulo left y p f is fine second typed = arith_told at operation.Modulo left y p f is fine second typed
 
-  told_chain : (at : Span) (by : ChainOp) (u : Simple) (o p : Outcome Value) (e f : Valued) → is_of (operand_type by) (Some u) ≡ true → IsTyped u o e → IsTold p f → ((z : Value) → p ≡ Got z → is_value N (operand_type by) z ≡ true) → IsTyped (operand_type by) (given o (λ y. joined at by y p)) (after e.demands (joined_term (length fr) by e.term f))
+  pub told_chain : (at : Span) (by : ChainOp) (u : Simple) (o p : Outcome Value) (e f : Valued) → is_of (operand_type by) (Some u) ≡ true → IsTyped u o e → IsTold p f → ((z : Value) → p ≡ Got z → is_value N (operand_type by) z ≡ true) → IsTyped (operand_type by) (given o (λ y. joined at by y p)) (after e.demands (joined_term (length fr) by e.term f))
   told_chain at by u o p e f fits first second typed =
       tells_given N s fr e.demands ((joined_term (length fr) by e.term f).demands) o (λ y. joined at by y p) _ _ first
       (λ y was both. told_joined at by e.term y p f both.0 (ap (λ w. is_value N w y) (sym same) ∙ both.1) second typed)
@@ -339,7 +339,7 @@ module _ (N : ℕ) (s : Cells) (fr : List ℕ) where
       same = some_one (of_type (operand_type by) (Some u) fits) ∙ operand_widened by
 
   -- a cell that is read
-  defined_told : (at : Span) (e : Term) (y : Value) → value_of N s fr e ≡ y → Tells N s fr (defined at y) (demand (is_defined e) ∷ []) (λ z. value_of N s fr e ≡ z)
+  pub defined_told : (at : Span) (e : Term) (y : Value) → value_of N s fr e ≡ y → Tells N s fr (defined at y) (demand (is_defined e) ∷ []) (λ z. value_of N s fr e ≡ z)
   defined_told at e y is = tells_test N s fr (is_defined e) (defined at y) _ (go y is)
     where
       go : (y : Value) → value_of N s fr e ≡ y → Either (is_true N s fr (is_defined e) ≡ true) (is_true N s fr (is_defined e) ≡ false) (defined at y) (λ z. value_of N s fr e ≡ z)
@@ -350,7 +350,7 @@ module _ (N : ℕ) (s : Cells) (fr : List ℕ) where
       go (v.Node n) is = (defined_is N s fr e (v.Node n) is, is)
 
   -- an index that is in its type
-  index_told : (at : Span) (over : Simple) (mark : Option ℕ) (e : Term) (y : Value) → value_of N s fr e ≡ y → is_value N (widened over) y ≡ true → Tells N s fr (fitting (is_value N over y) at y) (demand (index_fits over e) ∷ []) (λ z. IndexIs N s fr (index_over over mark e) z)
+  pub index_told : (at : Span) (over : Simple) (mark : Option ℕ) (e : Term) (y : Value) → value_of N s fr e ≡ y → is_value N (widened over) y ≡ true → Tells N s fr (fitting (is_value N over y) at y) (demand (index_fits over e) ∷ []) (λ z. IndexIs N s fr (index_over over mark e) z)
   index_told at over mark e y is fine = tells_test N s fr (index_fits over e) (fitting (is_value N over y) at y) _ (go (is_value N over y) refl)
     where
       go : (b : Bool) → is_value N over y ≡ b → Either (is_true N s fr (index_fits over e) ≡ true) (is_true N s fr (index_fits over e) ≡ false) (fitting b at y) (λ z. IndexIs N s fr (index_over over mark e) z)
