@@ -105,12 +105,12 @@ module _ (binds : PlacingBinds) (fit : ValuesFitInBodies) (s : Cells) (types : D
     at = h.at;
     sound = sound_binding types calls routines h.scope h.scene h.cells simple.Node (v.Node n) h.sound is refl;
     sited = site_under s h.fr h.site h.scene n h.sited;
-    rep = rep_under h.scene.nodes s h.fr h.T h.cells n h.rep }
+    rep = rep_under h.scene.nodes s h.scene.depth h.fr h.T h.cells n h.rep }
 
-  read_value : (h : H) (spot : Spot) (p : Place) → Spots h.scene.nodes s h.fr spot p → value_of h.scene.nodes s h.fr (read_of (length h.fr) h.T spot) ≡ cell_at h.cells p
+  read_value : (h : H) (spot : Spot) (p : Place) → Spots h.scene.nodes s h.scene.depth h.fr spot p → value_of h.scene.nodes s h.fr (read_of (length h.fr) h.T spot) ≡ cell_at h.cells p
   read_value h spot p spots =
       ap (λ xs. value_of h.scene.nodes s xs (read_of (length h.fr) h.T spot)) (sym (append_nothing h.fr))
-      ∙ place_shows h.scene.nodes s binds h.fr h.T h.cells spot p h.rep spots [] [] [] tt refl refl
+      ∙ place_shows h.scene.nodes s binds h.scene.depth h.fr h.T h.cells spot p h.rep spots [] [] [] tt refl refl
       ∙ ap (λ path. h.cells p.owner path (p.at ++ [])) (append_nothing p.path)
       ∙ ap (h.cells p.owner p.path) (append_nothing p.at)
 
@@ -147,17 +147,17 @@ module _ (binds : PlacingBinds) (fit : ValuesFitInBodies) (s : Cells) (types : D
       one n is = subst (λ m. IsTold h.scene.nodes s (h.fr ++ n ∷ []) (worked calls (with_bound h.scene (v.Node n)) h.at h.cells body) (valued_of tcalls (record (inner h.fr h.site) { frame = m }) (under_variable (length h.fr) h.T) body)) (length-one_more h.fr n) (each n is)
 
   -- a designator, given its indices
-  designator_told : {n : _} (h : H) (root : Root) (selectors : Row_of-Selector n) (U : AnyType) → selected_type h.scope (root_type h.scope root) selectors ≡ Some U → Tells h.scene.nodes s h.fr (worked_indices calls h.scene h.at h.cells selectors) ((indices_of tcalls (at_frame h.fr h.site) h.T selectors).demands) (λ xs. Leads h.scene.nodes s h.fr ((indices_of tcalls (at_frame h.fr h.site) h.T selectors).indices) xs) → Tells h.scene.nodes s h.fr (given (or_fault h.at (root_place h.scene root)) (λ p. given (worked_indices calls h.scene h.at h.cells selectors) (λ indices. Got (under p (row_path selectors) indices)))) ((indices_of tcalls (at_frame h.fr h.site) h.T selectors).demands) (λ p. Spots h.scene.nodes s h.fr (placed_under (root_spot (at_frame h.fr h.site) root) (row_path selectors) (indices_of tcalls (at_frame h.fr h.site) h.T selectors)).spot p)
+  designator_told : {n : _} (h : H) (root : Root) (selectors : Row_of-Selector n) (U : AnyType) → selected_type h.scope (root_type h.scope root) selectors ≡ Some U → Tells h.scene.nodes s h.fr (worked_indices calls h.scene h.at h.cells selectors) ((indices_of tcalls (at_frame h.fr h.site) h.T selectors).demands) (λ xs. Leads h.scene.nodes s h.fr ((indices_of tcalls (at_frame h.fr h.site) h.T selectors).indices) xs) → Tells h.scene.nodes s h.fr (given (or_fault h.at (root_place h.scene root)) (λ p. given (worked_indices calls h.scene h.at h.cells selectors) (λ indices. Got (under p (row_path selectors) indices)))) ((indices_of tcalls (at_frame h.fr h.site) h.T selectors).demands) (λ p. Spots h.scene.nodes s h.scene.depth h.fr (placed_under (root_spot (at_frame h.fr h.site) root) (row_path selectors) (indices_of tcalls (at_frame h.fr h.site) h.T selectors)).spot p)
   designator_told h root selectors U e told =
       let (W, rooted_is) = rooted h.scope (root_type h.scope root) selectors U e in
       let (p, found, has) = h.sound.fits root W rooted_is in
       let base = root_spots s h.fr h.site h.scene root p h.sited found in
-      subst (λ o. Tells h.scene.nodes s h.fr (given (or_fault h.at o) (λ p. given (worked_indices calls h.scene h.at h.cells selectors) (λ indices. Got (under p (row_path selectors) indices)))) ((indices_of tcalls (at_frame h.fr h.site) h.T selectors).demands) (λ p. Spots h.scene.nodes s h.fr (placed_under (root_spot (at_frame h.fr h.site) root) (row_path selectors) (indices_of tcalls (at_frame h.fr h.site) h.T selectors)).spot p)) (sym found)
+      subst (λ o. Tells h.scene.nodes s h.fr (given (or_fault h.at o) (λ p. given (worked_indices calls h.scene h.at h.cells selectors) (λ indices. Got (under p (row_path selectors) indices)))) ((indices_of tcalls (at_frame h.fr h.site) h.T selectors).demands) (λ p. Spots h.scene.nodes s h.scene.depth h.fr (placed_under (root_spot (at_frame h.fr h.site) root) (row_path selectors) (indices_of tcalls (at_frame h.fr h.site) h.T selectors)).spot p)) (sym found)
       (tells_then h.scene.nodes s h.fr ((indices_of tcalls (at_frame h.fr h.site) h.T selectors).demands) (worked_indices calls h.scene h.at h.cells selectors) (λ indices. under p (row_path selectors) indices) _ _ told
-      (λ xs leads. record { owner = base.owner; path = ap (λ path. path ++ row_path selectors) base.path; leads = leads_joined h.scene.nodes s h.fr (root_spot (at_frame h.fr h.site) root).at ((indices_of tcalls (at_frame h.fr h.site) h.T selectors).indices) p.at xs base.leads leads }))
+      (λ xs leads. record { reach = base.reach; owner = base.owner; path = ap (λ path. path ++ row_path selectors) base.path; leads = leads_joined h.scene.nodes s h.fr (root_spot (at_frame h.fr h.site) root).at ((indices_of tcalls (at_frame h.fr h.site) h.T selectors).indices) p.at xs base.leads leads }))
 
   -- a call of a function, given its arguments
-  call_told : (h : H) (k : ℕ) (args : Arguments) (u : Simple) → option_and_then (λ r. only_if (arguments_fit h.scope r.formals args) (option_map widened r.result)) (slice_get h.scope.routines k) ≡ Some u → ((formals : List DeclaredFormal) → arguments_fit h.scope formals args ≡ true → Tells h.scene.nodes s h.fr (arguments_of calls h.scene h.at h.cells args) ((argued_of tcalls (at_frame h.fr h.site) h.T args).demands) (λ gs. ArgsAre h.scene.nodes s h.fr ((argued_of tcalls (at_frame h.fr h.site) h.T args).given) gs)) → Told h (given (arguments_of calls h.scene h.at h.cells args) (λ gs. given (calls k h.scene h.at gs h.cells) (λ left. or_fault h.at left.result))) (with_calls tcalls k (at_frame h.fr h.site) h.T (argued_of tcalls (at_frame h.fr h.site) h.T args))
+  call_told : (h : H) (k : ℕ) (args : Arguments) (u : Simple) → option_and_then (λ r. only_if (arguments_fit h.scope r.formals args) (option_map widened r.result)) (slice_get h.scope.routines k) ≡ Some u → ((formals : List DeclaredFormal) → arguments_fit h.scope formals args ≡ true → Tells h.scene.nodes s h.fr (arguments_of calls h.scene h.at h.cells args) ((argued_of tcalls (at_frame h.fr h.site) h.T args).demands) (λ gs. ArgsAre h.scene.nodes s h.scene.depth h.fr ((argued_of tcalls (at_frame h.fr h.site) h.T args).given) gs)) → Told h (given (arguments_of calls h.scene h.at h.cells args) (λ gs. given (calls k h.scene h.at gs h.cells) (λ left. or_fault h.at left.result))) (with_calls tcalls k (at_frame h.fr h.site) h.T (argued_of tcalls (at_frame h.fr h.site) h.T args))
   call_told h k args u e arguments = go (slice_get h.scope.routines k) refl e
     where
       given_args : Argued
@@ -178,13 +178,13 @@ module _ (binds : PlacingBinds) (fit : ValuesFitInBodies) (s : Cells) (types : D
   undefined_value : (h : H) (spot : Spot) (p : Place) → value_of h.scene.nodes s h.fr (read_of (length h.fr) h.T spot) ≡ cell_at h.cells p → value_of h.scene.nodes s h.fr (t.Same (read_of (length h.fr) h.T spot) undefined) ≡ v.Truth (same_value (cell_at h.cells p) v.Undefined)
   undefined_value h spot p is = value-Same h.scene.nodes s h.fr (read_of (length h.fr) h.T spot) undefined ∙ ap (λ y. v.Truth (same_value y (value_of h.scene.nodes s h.fr undefined))) is ∙ ap (λ y. v.Truth (same_value (cell_at h.cells p) y)) (value-Known h.scene.nodes s h.fr v.Undefined)
 
-  filled_is : (h : H) (mark : Option ℕ) (term : Term) (g : Given) → ((y : Value) × (g ≡ Filled (only y)) × (value_of h.scene.nodes s h.fr term ≡ y) × (same_value y v.Undefined ≡ false)) → ArgIs h.scene.nodes s h.fr (Filling mark false (only_term (length h.fr) term)) g
+  filled_is : (h : H) (mark : Option ℕ) (term : Term) (g : Given) → ((y : Value) × (g ≡ Filled (only y)) × (value_of h.scene.nodes s h.fr term ≡ y) × (same_value y v.Undefined ≡ false)) → ArgIs h.scene.nodes s h.scene.depth h.fr (Filling mark false (only_term (length h.fr) term)) g
   filled_is h mark term g facts =
       let (y, g_is, value, there) = facts in
-      subst (λ g. ArgIs h.scene.nodes s h.fr (Filling mark false (only_term (length h.fr) term)) g) (sym g_is) (only_shows h.scene.nodes s h.fr term y value, λ e. there)
+      subst (λ g. ArgIs h.scene.nodes s h.scene.depth h.fr (Filling mark false (only_term (length h.fr) term)) g) (sym g_is) (only_shows h.scene.nodes s h.fr term y value, λ e. there)
 
   -- arguments, one before others
-  one_told : (h : H) (f : Gift) (ds : List Demand) (rest : Argued) (o : Outcome Given) (p : Outcome (List Given)) → Tells h.scene.nodes s h.fr o ds (λ g. ArgIs h.scene.nodes s h.fr f g) → Tells h.scene.nodes s h.fr p rest.demands (λ gs. ArgsAre h.scene.nodes s h.fr rest.given gs) → Tells h.scene.nodes s h.fr (given o (λ g. given p (λ gs. Got (g ∷ gs)))) (ds ++ rest.demands) (λ gs. ArgsAre h.scene.nodes s h.fr (f ∷ rest.given) gs)
+  one_told : (h : H) (f : Gift) (ds : List Demand) (rest : Argued) (o : Outcome Given) (p : Outcome (List Given)) → Tells h.scene.nodes s h.fr o ds (λ g. ArgIs h.scene.nodes s h.scene.depth h.fr f g) → Tells h.scene.nodes s h.fr p rest.demands (λ gs. ArgsAre h.scene.nodes s h.scene.depth h.fr rest.given gs) → Tells h.scene.nodes s h.fr (given o (λ g. given p (λ gs. Got (g ∷ gs)))) (ds ++ rest.demands) (λ gs. ArgsAre h.scene.nodes s h.scene.depth h.fr (f ∷ rest.given) gs)
   one_told h f ds rest o p first second =
       tells_given h.scene.nodes s h.fr ds rest.demands o _ _ _ first
       (λ g was is. tells_then h.scene.nodes s h.fr rest.demands p (λ gs. g ∷ gs) _ _ second (λ gs are. (is, are)))
@@ -273,7 +273,7 @@ module _ (binds : PlacingBinds) (fit : ValuesFitInBodies) (s : Cells) (types : D
         (tells_chain rest h (given o (λ y. joined h.at by y (result h operand))) (after before.demands (joined_term (length h.fr) by before.term (taken h operand))) (operand_type by) u
         (told_chain h.scene.nodes s h.fr h.at by w o (result h operand) before (taken h operand) first told (tells_value operand h (operand_type by) found) (typed h operand (operand_type by) found)) more)))
 
-    pub tells_place : (place : Designator) (h : H) (U : AnyType) → place_type h.scope place ≡ Some U → Tells h.scene.nodes s h.fr (place_of calls h.scene h.at h.cells place) ((placed_of tcalls (at_frame h.fr h.site) h.T place).demands) (λ p. Spots h.scene.nodes s h.fr (placed_of tcalls (at_frame h.fr h.site) h.T place).spot p)
+    pub tells_place : (place : Designator) (h : H) (U : AnyType) → place_type h.scope place ≡ Some U → Tells h.scene.nodes s h.fr (place_of calls h.scene h.at h.cells place) ((placed_of tcalls (at_frame h.fr h.site) h.T place).demands) (λ p. Spots h.scene.nodes s h.scene.depth h.fr (placed_of tcalls (at_frame h.fr h.site) h.T place).spot p)
     tells_place (d.Of' root _ selectors from) h U e = designator_told h root selectors U e (tells_indices selectors h (root_type h.scope root) U e)
 
     tells_indices : {n : _} (selectors : Row_of-Selector n) (h : H) (o : Option AnyType) (U : AnyType) → selected_type h.scope o selectors ≡ Some U → Tells h.scene.nodes s h.fr (worked_indices calls h.scene h.at h.cells selectors) ((indices_of tcalls (at_frame h.fr h.site) h.T selectors).demands) (λ xs. Leads h.scene.nodes s h.fr ((indices_of tcalls (at_frame h.fr h.site) h.T selectors).indices) xs)
@@ -288,16 +288,16 @@ module _ (binds : PlacingBinds) (fit : ValuesFitInBodies) (s : Cells) (types : D
         (index_told h.scene.nodes s h.fr h.at over (mark_of (at_frame h.fr h.site) index) (taken h index).term y is (typed h index (widened over) found y was))
         (λ z was' index_is. tells_then h.scene.nodes s h.fr ((indices_of tcalls (at_frame h.fr h.site) h.T rest).demands) (worked_indices calls h.scene h.at h.cells rest) (λ zs. z ∷ zs) _ _ (tells_indices rest h (item_part o over) U more) (λ zs leads. (index_is, leads))))))
 
-    pub tells_arguments : (args : Arguments) (h : H) (formals : List DeclaredFormal) → arguments_fit h.scope formals args ≡ true → Tells h.scene.nodes s h.fr (arguments_of calls h.scene h.at h.cells args) ((argued_of tcalls (at_frame h.fr h.site) h.T args).demands) (λ gs. ArgsAre h.scene.nodes s h.fr ((argued_of tcalls (at_frame h.fr h.site) h.T args).given) gs)
+    pub tells_arguments : (args : Arguments) (h : H) (formals : List DeclaredFormal) → arguments_fit h.scope formals args ≡ true → Tells h.scene.nodes s h.fr (arguments_of calls h.scene h.at h.cells args) ((argued_of tcalls (at_frame h.fr h.site) h.T args).demands) (λ gs. ArgsAre h.scene.nodes s h.scene.depth h.fr ((argued_of tcalls (at_frame h.fr h.site) h.T args).given) gs)
     tells_arguments (a.Of' _ args) h formals fits = tells_row args h formals fits
 
-    tells_row : {n : _} (args : Row_of-Argument n) (h : H) (formals : List DeclaredFormal) → row_fits h.scope formals args ≡ true → Tells h.scene.nodes s h.fr (row_arguments calls h.scene h.at h.cells args) ((row_argued tcalls (at_frame h.fr h.site) h.T args).demands) (λ gs. ArgsAre h.scene.nodes s h.fr ((row_argued tcalls (at_frame h.fr h.site) h.T args).given) gs)
+    tells_row : {n : _} (args : Row_of-Argument n) (h : H) (formals : List DeclaredFormal) → row_fits h.scope formals args ≡ true → Tells h.scene.nodes s h.fr (row_arguments calls h.scene h.at h.cells args) ((row_argued tcalls (at_frame h.fr h.site) h.T args).demands) (λ gs. ArgsAre h.scene.nodes s h.scene.depth h.fr ((row_argued tcalls (at_frame h.fr h.site) h.T args).given) gs)
     tells_row end_of-Argument h formals fits = (tt, tt)
     tells_row (more_of-Argument first rest) h formals fits =
         let (one, more) = and_parts (argument_fits h.scope (first_of formals) first) (row_fits h.scope (rest_of formals) rest) (sym (row_more h.scope formals first rest) ∙ fits) in
         tells_argument first h (first_of formals) one (row_argued tcalls (at_frame h.fr h.site) h.T rest) (row_arguments calls h.scene h.at h.cells rest) (tells_row rest h (rest_of formals) more)
 
-    tells_argument : (first : argument.Argument) (h : H) (formal : Option DeclaredFormal) → argument_fits h.scope formal first ≡ true → (rest : Argued) (p : Outcome (List Given)) → Tells h.scene.nodes s h.fr p rest.demands (λ gs. ArgsAre h.scene.nodes s h.fr rest.given gs) → Tells h.scene.nodes s h.fr (given (argument_of calls h.scene h.at h.cells first) (λ g. given p (λ gs. Got (g ∷ gs)))) ((one_argued tcalls (at_frame h.fr h.site) h.T first rest).demands) (λ gs. ArgsAre h.scene.nodes s h.fr ((one_argued tcalls (at_frame h.fr h.site) h.T first rest).given) gs)
+    tells_argument : (first : argument.Argument) (h : H) (formal : Option DeclaredFormal) → argument_fits h.scope formal first ≡ true → (rest : Argued) (p : Outcome (List Given)) → Tells h.scene.nodes s h.fr p rest.demands (λ gs. ArgsAre h.scene.nodes s h.scene.depth h.fr rest.given gs) → Tells h.scene.nodes s h.fr (given (argument_of calls h.scene h.at h.cells first) (λ g. given p (λ gs. Got (g ∷ gs)))) ((one_argued tcalls (at_frame h.fr h.site) h.T first rest).demands) (λ gs. ArgsAre h.scene.nodes s h.scene.depth h.fr ((one_argued tcalls (at_frame h.fr h.site) h.T first rest).given) gs)
     tells_argument (argument.Copy place) h formal fits rest p told =
         let (u, found) = value_typed formal (option_map widened (simple_part (place_type h.scope place))) fits in
         let (w, is, wide) = widened_found (place_type h.scope place) u found in
@@ -308,7 +308,7 @@ module _ (binds : PlacingBinds) (fit : ValuesFitInBodies) (s : Cells) (types : D
         let (U, is) = compound_typed formal (place_type h.scope place) fits in
         one_told h (Filling None true (shown_at (length h.fr) h.T (placed_of tcalls (at_frame h.fr h.site) h.T place).spot)) ((placed_of tcalls (at_frame h.fr h.site) h.T place).demands) rest (argument_of calls h.scene h.at h.cells (argument.CopyAll place)) p
         (tells_then h.scene.nodes s h.fr ((placed_of tcalls (at_frame h.fr h.site) h.T place).demands) (place_of calls h.scene h.at h.cells place) (λ q. Filled (contents_at h.cells q)) _ _ (tells_place place h U is)
-        (λ q spots. (place_shows h.scene.nodes s binds h.fr h.T h.cells (placed_of tcalls (at_frame h.fr h.site) h.T place).spot q h.rep spots, λ wrong. absurd_false (sym wrong)))) told
+        (λ q spots. (place_shows h.scene.nodes s binds h.scene.depth h.fr h.T h.cells (placed_of tcalls (at_frame h.fr h.site) h.T place).spot q h.rep spots, λ wrong. absurd_false (sym wrong)))) told
     tells_argument (argument.Value body) h formal fits rest p told =
         let (u, found) = value_typed formal (type_of h.scope body) fits in
         one_told h (Filling (mark_of (at_frame h.fr h.site) body) false (only_term (length h.fr) (taken h body).term)) (taken h body).demands rest (argument_of calls h.scene h.at h.cells (argument.Value body)) p

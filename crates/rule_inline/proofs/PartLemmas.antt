@@ -139,20 +139,20 @@ pub record Here (s : Cells) (types : Declared) (calls : Calls) (routines : List 
   pub at : Span
   pub sound : Sound types calls routines scope scene cells
   pub sited : Sited s fr site scene
-  pub rep : Rep scene.nodes s fr T cells
+  pub rep : Rep scene.nodes s scene.depth fr T cells
 
 -- an argument as it is given
-abbrev pub ArgIs : ℕ → Cells → List ℕ → Gift → Given → Type 0
-ArgIs N s fr (Filling mark plain shown) (Filled contents) = Shows N s fr shown contents × (plain ≡ false → same_value (contents [] []) v.Undefined ≡ false)
-ArgIs N s fr (Filling mark plain shown) (Standing place) = ⊥
-ArgIs N s fr (Placing spot) (Filled contents) = ⊥
-ArgIs N s fr (Placing spot) (Standing place) = Spots N s fr spot place
+abbrev pub ArgIs : ℕ → Cells → ℕ → List ℕ → Gift → Given → Type 0
+ArgIs N s depth fr (Filling mark plain shown) (Filled contents) = Shows N s fr shown contents × (plain ≡ false → same_value (contents [] []) v.Undefined ≡ false)
+ArgIs N s depth fr (Filling mark plain shown) (Standing place) = ⊥
+ArgIs N s depth fr (Placing spot) (Filled contents) = ⊥
+ArgIs N s depth fr (Placing spot) (Standing place) = Spots N s depth fr spot place
 
-abbrev pub ArgsAre : ℕ → Cells → List ℕ → List Gift → List Given → Type 0
-ArgsAre N s fr [] [] = Unit {0}
-ArgsAre N s fr [] (g ∷ gs) = ⊥
-ArgsAre N s fr (f ∷ fs) [] = ⊥
-ArgsAre N s fr (f ∷ fs) (g ∷ gs) = ArgIs N s fr f g × ArgsAre N s fr fs gs
+abbrev pub ArgsAre : ℕ → Cells → ℕ → List ℕ → List Gift → List Given → Type 0
+ArgsAre N s depth fr [] [] = Unit {0}
+ArgsAre N s depth fr [] (g ∷ gs) = ⊥
+ArgsAre N s depth fr (f ∷ fs) [] = ⊥
+ArgsAre N s depth fr (f ∷ fs) (g ∷ gs) = ArgIs N s depth fr f g × ArgsAre N s depth fr fs gs
 
 -- what is asked of a call of a function with arguments that were worked out
 abbrev pub FunctionTells : (s : Cells) (types : Declared) (calls : Calls) (routines : List Routine) (tcalls : TermCalls) → Here s types calls routines → Type 0
@@ -160,7 +160,7 @@ FunctionTells s types calls routines tcalls h =
     (k : ℕ) (r : Routine) (u : Simple) (args : Arguments) (gs : List Given) (gifts : List Gift)
     → slice_get routines k ≡ Some r → r.result ≡ Some u → arguments_fit h.scope r.formals args ≡ true
     → arguments_of calls h.scene h.at h.cells args ≡ Got gs
-    → ArgsAre h.scene.nodes s h.fr gifts gs
+    → ArgsAre h.scene.nodes s h.scene.depth h.fr gifts gs
     → Tells h.scene.nodes s h.fr (calls k h.scene h.at gs h.cells) ((tcalls k (at_frame h.fr h.site) h.T gifts).demands ++ demand ((tcalls k (at_frame h.fr h.site) h.T gifts).change.now Leaving) ∷ [])
     (λ left. (w : Value) × (left.result ≡ Some w) × (value_of h.scene.nodes s h.fr ((tcalls k (at_frame h.fr h.site) h.T gifts).change.now Result) ≡ w))
 

@@ -1,7 +1,7 @@
--- Places: terms represent a store where each family has the value of its cells, whatever its indices are. Reading at
+-- Places: terms represent a store where each family in scope has the value of its cells, whatever its indices are. Reading at
 -- the terms of the indices gives the cell that they lead to.
 use Rattle.std.proofs.Common.{◌≡◌, ℕ, zero, suc, ◌+◌, ◌-◌, ◌<◌, Bool, true, false, ◌&&◌, cond, List, [], ◌∷◌, ◌++◌, length, map, Option, None, Some, ◌⊎◌, inl, inr, refl, sym, ap, ◌∙◌, subst, append_assoc, arith}
-use Rattle.std.specs.Prelude.{slice_get}
+use Rattle.std.specs.Prelude.{slice_get, nat_le}
 use Rattle.std.specs.List.{list_all, flat_map}
 use Rattle.std.specs.Option.{option_map_or}
 use Rattle.std.proofs.lemmas.Bool.{and_parts}
@@ -17,7 +17,7 @@ use Rattle.term_core.specs.Variables.{is_no_node}
 use Rattle.term_core.specs.Substitution.{lifted, placed}
 use Rattle.term_core.specs.Laws.{PlacingBinds}
 use Rattle.murphi_typed.specs.Families.{Path}
-use Rattle.murphi_typed.specs.Store.{Owner, Cells as Store}
+use Rattle.murphi_typed.specs.Store.{Owner, Global, Local, Formal, Cells as Store}
 use Rattle.rule_inline.specs.Tables.{Key, holes, Slot, Family, Terms, variables, lifted_all, Index, Axis, Among, Spot, Entry, with_axis, with_value, entries, read_at, tested, chain_of}
 use Rattle.rule_inline.specs.Presents.{at_nodes}
 use Rattle.rule_inline.proofs.ValueLemmas.{values_one, value_itself, absurd_false}
@@ -51,6 +51,12 @@ at_joined (None ∷ key) more (n ∷ ns) ms long = ap (λ vs. v.Node n ∷ vs) (
 abbrev pub Has : List Value → Value → Type 0
 Has [] x = ⊥
 Has (w ∷ ws) x = (w ≡ x) ⊎ Has ws x
+
+-- the variables of a body at this depth in calls, and of those around it
+abbrev pub reaches : ℕ → Owner → Bool
+reaches depth (Global k) = true
+reaches depth (Local of k) = nat_le of depth
+reaches depth (Formal of k) = nat_le of depth
 
 module _ (N : ℕ) (s : Cells) where
   pub nodes_joined : (xs ys : List ℕ) → Nodes N s xs → Nodes N s ys → Nodes N s (xs ++ ys)
@@ -112,8 +118,8 @@ module _ (N : ℕ) (s : Cells) where
 
   -- The terms represent the store
 
-  abbrev pub Rep : List ℕ → Terms → Store → Type 0
-  Rep fr T c = (owner : Owner) (path : Path) (key : Key) (ns : List ℕ) → NoNodes key → length ns ≡ holes key → Nodes N s ns → value_of N s (fr ++ ns) (T (Family owner path key)) ≡ c owner path (at_nodes key ns)
+  abbrev pub Rep : ℕ → List ℕ → Terms → Store → Type 0
+  Rep depth fr T c = (owner : Owner) (path : Path) (key : Key) (ns : List ℕ) → reaches depth owner ≡ true → NoNodes key → length ns ≡ holes key → Nodes N s ns → value_of N s (fr ++ ns) (T (Family owner path key)) ≡ c owner path (at_nodes key ns)
 
   -- what the indices of a place lead to
   abbrev pub IndexIs : List ℕ → Index → Value → Type 0
@@ -225,7 +231,7 @@ module _ (N : ℕ) (s : Cells) where
 
   -- Reading
 
-  module _ (binds : PlacingBinds) (fr : List ℕ) (T : Terms) (c : Store) (rep : Rep fr T c) (spot : Spot) (at : List Value) (path : Path) (key : Key) (more : List ℕ) (none : NoNodes key) (long : length more ≡ holes key) (nodes : Nodes N s more) where
+  module _ (binds : PlacingBinds) (depth : ℕ) (fr : List ℕ) (T : Terms) (c : Store) (rep : Rep depth fr T c) (spot : Spot) (reach : reaches depth spot.owner ≡ true) (at : List Value) (path : Path) (key : Key) (more : List ℕ) (none : NoNodes key) (long : length more ≡ holes key) (nodes : Nodes N s more) where
     abbrev slot : Entry → Slot
     slot e = Family spot.owner (spot.path ++ path) (e.key ++ key)
 
@@ -240,7 +246,7 @@ module _ (N : ℕ) (s : Cells) where
         let l : length (fr ++ more) ≡ length fr + holes key = length-append fr more ∙ ap (λ m. length fr + m) long in
         binds N s (fr ++ more) (fr ++ (r.ns ++ more)) (length fr + holes key) (all_terms e) (T (slot e)) l (stand_length (fr ++ more) (all_terms e) (fr ++ (r.ns ++ more)) stands)
         (λ k by n occurs at_k node_k. stand_at (fr ++ more) (all_terms e) (fr ++ (r.ns ++ more)) stands k by n at_k node_k)
-        ∙ rep spot.owner (spot.path ++ path) (e.key ++ key) (r.ns ++ more) (no_nodes_joined e.key key r.no_nodes none)
+        ∙ rep spot.owner (spot.path ++ path) (e.key ++ key) (r.ns ++ more) reach (no_nodes_joined e.key key r.no_nodes none)
         (length-append r.ns more ∙ (let a = r.count in let b = holes_joined e.key key in omega (arith, a, b, long))) (nodes_joined r.ns more r.nodes nodes)
         ∙ ap (c spot.owner (spot.path ++ path)) (at_joined e.key key r.ns more r.count ∙ ap (λ vs. vs ++ at_nodes key more) r.at_is)
 

@@ -1,6 +1,6 @@
 -- What is known of a body that runs, and of the site at which it is taken as terms.
 use Rattle.std.proofs.Common.{◌≡◌, ℕ, zero, suc, ◌+◌, ◌-◌, ◌<◌, ◌≤◌, Bool, true, false, cond, List, [], ◌∷◌, ◌++◌, length, map, Option, None, Some, refl, sym, ap, ◌∙◌, subst, append_assoc, arith}
-use Rattle.std.specs.Prelude.{nat_lt, nat_eq, slice_get, unwrap_or}
+use Rattle.std.specs.Prelude.{nat_lt, nat_le, nat_eq, slice_get, unwrap_or}
 use Rattle.std.specs.Option.{option_map_or}
 use Rattle.term_core.specs.declared.value.Value.{Value}
 use Rattle.term_core.specs.declared.value.Value.TheVariants as v
@@ -23,7 +23,7 @@ use Rattle.rule_inline.specs.Tables.{Slot, Family, Terms, under_variable, Index,
 use Rattle.rule_inline.specs.Parts.{Given as Gift, Filled as Filling, Standing as Placing, Site, lifted_given, with_value, with_variable, undefined, bound_term, whole_spot, root_spot, stood_for as stood_in}
 use Rattle.rule_inline.proofs.TypeLemmas.{not_some, some_one}
 use Rattle.rule_inline.proofs.TermLemmas.{value-Known, value-Var, lifted_between, lifted_end, get_first, get_past, length-one_more}
-use Rattle.rule_inline.proofs.PlaceLemmas.{Rep, IndexIs, Leads, variable_there}
+use Rattle.rule_inline.proofs.PlaceLemmas.{reaches, Rep, IndexIs, Leads, variable_there}
 use Rattle.rule_inline.proofs.WriteLemmas.{Spots}
 
 -- a body that keeps to its types
@@ -123,24 +123,24 @@ module _ (N : ℕ) (s : Cells) where
   bound_there fr (e ∷ es) (x ∷ xs) (suc k) (is, b, a) less = bound_there fr es xs k a (omega (arith, less))
 
   -- what formals stand for
-  abbrev pub GiftIs : List ℕ → Gift → Given → Type 0
-  GiftIs fr (Filling mark plain shown) (Filled contents) = Unit {0}
-  GiftIs fr (Filling mark plain shown) (Standing place) = ⊥
-  GiftIs fr (Placing spot) (Filled contents) = ⊥
-  GiftIs fr (Placing spot) (Standing place) = Spots N s fr spot place
+  abbrev pub GiftIs : ℕ → List ℕ → Gift → Given → Type 0
+  GiftIs depth fr (Filling mark plain shown) (Filled contents) = Unit {0}
+  GiftIs depth fr (Filling mark plain shown) (Standing place) = ⊥
+  GiftIs depth fr (Placing spot) (Filled contents) = ⊥
+  GiftIs depth fr (Placing spot) (Standing place) = Spots N s depth fr spot place
 
-  abbrev pub GiftsAre : List ℕ → List Gift → List Given → Type 0
-  GiftsAre fr [] [] = Unit {0}
-  GiftsAre fr [] (g ∷ gs) = ⊥
-  GiftsAre fr (f ∷ fs) [] = ⊥
-  GiftsAre fr (f ∷ fs) (g ∷ gs) = GiftIs fr f g × GiftsAre fr fs gs
+  abbrev pub GiftsAre : ℕ → List ℕ → List Gift → List Given → Type 0
+  GiftsAre depth fr [] [] = Unit {0}
+  GiftsAre depth fr [] (g ∷ gs) = ⊥
+  GiftsAre depth fr (f ∷ fs) [] = ⊥
+  GiftsAre depth fr (f ∷ fs) (g ∷ gs) = GiftIs depth fr f g × GiftsAre depth fr fs gs
 
   -- the same under one more variable
-  pub rep_under : (fr : List ℕ) (T : Terms) (c : Store) (n : ℕ) → Rep N s fr T c → Rep N s (fr ++ n ∷ []) (under_variable (length fr) T) c
-  rep_under fr T c n rep owner path key ns none long nodes =
+  pub rep_under : (depth : ℕ) (fr : List ℕ) (T : Terms) (c : Store) (n : ℕ) → Rep N s depth fr T c → Rep N s depth (fr ++ n ∷ []) (under_variable (length fr) T) c
+  rep_under depth fr T c n rep owner path key ns reach none long nodes =
       ap (λ xs. value_of N s xs (lifted (length fr) 1 (T (Family owner path key)))) (append_assoc fr (n ∷ []) ns)
       ∙ lifted_between N s fr (n ∷ []) ns (T (Family owner path key))
-      ∙ rep owner path key ns none long nodes
+      ∙ rep owner path key ns reach none long nodes
 
   leads_under : (fr : List ℕ) (is : List Index) (xs : List Value) (n : ℕ) → Leads N s fr is xs → Leads N s (fr ++ n ∷ []) (map (lifted_index (length fr)) is) xs
   leads_under fr [] [] n a = tt
@@ -149,17 +149,17 @@ module _ (N : ℕ) (s : Cells) where
   leads_under fr (Axis mark e ∷ is) (x ∷ xs) n (index, a) = let (m, x_is, value, node) = index in ((m, x_is, lifted_end N s fr (n ∷ []) e ∙ value, node), leads_under fr is xs n a)
   leads_under fr (Among ws e ∷ is) (x ∷ xs) n (index, a) = let (value, has, nots) = index in ((lifted_end N s fr (n ∷ []) e ∙ value, has, nots), leads_under fr is xs n a)
 
-  pub spots_under : (fr : List ℕ) (spot : Spot) (place : Place) (n : ℕ) → Spots N s fr spot place → Spots N s (fr ++ n ∷ []) (lifted_spot (length fr) spot) place
-  spots_under fr spot place n spots = record { owner = spots.owner; path = spots.path; leads = leads_under fr spot.at place.at n spots.leads }
+  pub spots_under : (depth : ℕ) (fr : List ℕ) (spot : Spot) (place : Place) (n : ℕ) → Spots N s depth fr spot place → Spots N s depth (fr ++ n ∷ []) (lifted_spot (length fr) spot) place
+  spots_under depth fr spot place n spots = record { reach = spots.reach; owner = spots.owner; path = spots.path; leads = leads_under fr spot.at place.at n spots.leads }
 
-  gifts_under : (fr : List ℕ) (fs : List Gift) (gs : List Given) (n : ℕ) → GiftsAre fr fs gs → GiftsAre (fr ++ n ∷ []) (map (lifted_given (length fr)) fs) gs
-  gifts_under fr [] [] n a = tt
-  gifts_under fr [] (g ∷ gs) n a = absurd a
-  gifts_under fr (f ∷ fs) [] n a = absurd a
-  gifts_under fr (Filling mark plain shown ∷ fs) (Filled contents ∷ gs) n (x, a) = (tt, gifts_under fr fs gs n a)
-  gifts_under fr (Filling mark plain shown ∷ fs) (Standing place ∷ gs) n (x, a) = absurd x
-  gifts_under fr (Placing spot ∷ fs) (Filled contents ∷ gs) n (x, a) = absurd x
-  gifts_under fr (Placing spot ∷ fs) (Standing place ∷ gs) n (x, a) = (spots_under fr spot place n x, gifts_under fr fs gs n a)
+  gifts_under : (depth : ℕ) (fr : List ℕ) (fs : List Gift) (gs : List Given) (n : ℕ) → GiftsAre depth fr fs gs → GiftsAre depth (fr ++ n ∷ []) (map (lifted_given (length fr)) fs) gs
+  gifts_under depth fr [] [] n a = tt
+  gifts_under depth fr [] (g ∷ gs) n a = absurd a
+  gifts_under depth fr (f ∷ fs) [] n a = absurd a
+  gifts_under depth fr (Filling mark plain shown ∷ fs) (Filled contents ∷ gs) n (x, a) = (tt, gifts_under depth fr fs gs n a)
+  gifts_under depth fr (Filling mark plain shown ∷ fs) (Standing place ∷ gs) n (x, a) = absurd x
+  gifts_under depth fr (Placing spot ∷ fs) (Filled contents ∷ gs) n (x, a) = absurd x
+  gifts_under depth fr (Placing spot ∷ fs) (Standing place ∷ gs) n (x, a) = (spots_under depth fr spot place n x, gifts_under depth fr fs gs n a)
 
 -- a site at which a frame is bound
 abbrev pub at_frame : List ℕ → Site → Site
@@ -173,13 +173,13 @@ inner fr site = record site { bound = site.bound ++ t.Var (length fr) ∷ []; fo
 pub record Sited (s : Cells) (fr : List ℕ) (site : Site) (scene : Scene) : Type 0 where
   pub depth : site.depth ≡ scene.depth
   pub bound : BoundAre scene.nodes s fr site.bound scene.bound
-  pub formals : GiftsAre scene.nodes s fr site.formals scene.formals
+  pub formals : GiftsAre scene.nodes s scene.depth fr site.formals scene.formals
 
 pub site_under : (s : Cells) (fr : List ℕ) (site : Site) (scene : Scene) (n : ℕ) → Sited s fr site scene → Sited s (fr ++ n ∷ []) (inner fr site) (with_bound scene (v.Node n))
 site_under s fr site scene n sited = record {
   depth = sited.depth;
   bound = bound_joined scene.nodes s (fr ++ n ∷ []) site.bound scene.bound (t.Var (length fr)) (v.Node n) (bound_under scene.nodes s fr site.bound scene.bound n sited.bound) (variable_there scene.nodes s fr n []) (let l = length-one_more fr n in omega (arith, l));
-  formals = gifts_under scene.nodes s fr site.formals scene.formals n sited.formals }
+  formals = gifts_under scene.nodes s scene.depth fr site.formals scene.formals n sited.formals }
 
 pub site_value : (s : Cells) (fr : List ℕ) (site : Site) (scene : Scene) (x : Value) → Sited s fr site scene → Sited s fr (with_value site x) (with_bound scene x)
 site_value s fr site scene x sited = record {
@@ -188,22 +188,25 @@ site_value s fr site scene x sited = record {
   formals = sited.formals }
 
 -- the place of a variable
-module _ (N : ℕ) (s : Cells) (fr : List ℕ) where
-  stood : (other : Spot) (fs : List Gift) (gs : List Given) (k : ℕ) (p : Place) → GiftsAre N s fr fs gs → stood_for (slice_get gs k) ≡ Some p → Spots N s fr (stood_in other (slice_get fs k)) p
+module _ (N : ℕ) (s : Cells) (depth : ℕ) (fr : List ℕ) where
+  stood : (other : Spot) (fs : List Gift) (gs : List Given) (k : ℕ) (p : Place) → GiftsAre N s depth fr fs gs → stood_for (slice_get gs k) ≡ Some p → Spots N s depth fr (stood_in other (slice_get fs k)) p
   stood other [] [] k p a e = not_some e
   stood other [] (g ∷ gs) k p a e = absurd a
   stood other (f ∷ fs) [] k p a e = absurd a
   stood other (Filling mark plain shown ∷ fs) (Filled contents ∷ gs) zero p (x, a) e = not_some e
   stood other (Filling mark plain shown ∷ fs) (Standing place ∷ gs) zero p (x, a) e = absurd x
   stood other (Placing spot ∷ fs) (Filled contents ∷ gs) zero p (x, a) e = absurd x
-  stood other (Placing spot ∷ fs) (Standing place ∷ gs) zero p (x, a) e = subst (λ q. Spots N s fr spot q) (some_one e) x
+  stood other (Placing spot ∷ fs) (Standing place ∷ gs) zero p (x, a) e = subst (λ q. Spots N s depth fr spot q) (some_one e) x
   stood other (f ∷ fs) (g ∷ gs) (suc k) p (x, a) e = stood other fs gs k p a e
 
-whole_spots : (N : ℕ) (s : Cells) (fr : List ℕ) (owner owner' : Owner) (p : Place) → owner ≡ owner' → Some (whole owner') ≡ Some p → Spots N s fr (record { owner = owner; path = []; at = [] }) p
-whole_spots N s fr owner owner' p same e = subst (λ q. Spots N s fr (record { owner = owner; path = []; at = [] }) q) (some_one e) (record { owner = same; path = refl; leads = tt })
+whole_spots : (N : ℕ) (s : Cells) (depth : ℕ) (fr : List ℕ) (owner owner' : Owner) (p : Place) → reaches depth owner ≡ true → owner ≡ owner' → Some (whole owner') ≡ Some p → Spots N s depth fr (record { owner = owner; path = []; at = [] }) p
+whole_spots N s depth fr owner owner' p reach same e = subst (λ q. Spots N s depth fr (record { owner = owner; path = []; at = [] }) q) (some_one e) (record { reach = reach; owner = same; path = refl; leads = tt })
 
-pub root_spots : (s : Cells) (fr : List ℕ) (site : Site) (scene : Scene) (r : Root) (p : Place) → Sited s fr site scene → root_place scene r ≡ Some p → Spots scene.nodes s fr (root_spot (at_frame fr site) r) p
-root_spots s fr site scene (root.Global k) p sited e = whole_spots scene.nodes s fr (Global k) (Global k) p refl e
-root_spots s fr site scene (root.Local k) p sited e = whole_spots scene.nodes s fr (Local site.depth k) (Local scene.depth k) p (ap (λ d. Local d k) sited.depth) e
-root_spots s fr site scene (root.Formal k) p sited e = whole_spots scene.nodes s fr (Formal site.depth k) (Formal scene.depth k) p (ap (λ d. Formal d k) sited.depth) e
-root_spots s fr site scene (root.Place k) p sited e = stood scene.nodes s fr (whole_spot (at_frame fr site) (root.Place k)) site.formals scene.formals k p sited.formals e
+own_depth : (d : ℕ) → nat_le d d ≡ true
+own_depth d = grind arith
+
+pub root_spots : (s : Cells) (fr : List ℕ) (site : Site) (scene : Scene) (r : Root) (p : Place) → Sited s fr site scene → root_place scene r ≡ Some p → Spots scene.nodes s scene.depth fr (root_spot (at_frame fr site) r) p
+root_spots s fr site scene (root.Global k) p sited e = whole_spots scene.nodes s scene.depth fr (Global k) (Global k) p refl refl e
+root_spots s fr site scene (root.Local k) p sited e = whole_spots scene.nodes s scene.depth fr (Local site.depth k) (Local scene.depth k) p (ap (λ d. nat_le d scene.depth) sited.depth ∙ own_depth scene.depth) (ap (λ d. Local d k) sited.depth) e
+root_spots s fr site scene (root.Formal k) p sited e = whole_spots scene.nodes s scene.depth fr (Formal site.depth k) (Formal scene.depth k) p (ap (λ d. nat_le d scene.depth) sited.depth ∙ own_depth scene.depth) (ap (λ d. Formal d k) sited.depth) e
+root_spots s fr site scene (root.Place k) p sited e = stood scene.nodes s scene.depth fr (whole_spot (at_frame fr site) (root.Place k)) site.formals scene.formals k p sited.formals e

@@ -23,7 +23,7 @@ use Rattle.rule_inline.specs.Presents.{at_nodes}
 use Rattle.rule_inline.proofs.ValueLemmas.{absurd_false}
 use Rattle.rule_inline.proofs.TermLemmas.{value-Known, value-And, value-If, value-Same, is_true, and_of, lifted_between, lifted_by, append_nothing}
 use Rattle.rule_inline.proofs.Outcome.{Nodes}
-use Rattle.rule_inline.proofs.PlaceLemmas.{NoNodes, Rep, Has, IndexIs, Leads, variable_there, shown_value}
+use Rattle.rule_inline.proofs.PlaceLemmas.{NoNodes, reaches, Rep, Has, IndexIs, Leads, variable_there, shown_value}
 
 node_other : (n : ℕ) (w : Value) → is_no_node w ≡ true → same_value (v.Node n) w ≡ false
 node_other n v.Undefined e = refl
@@ -167,19 +167,20 @@ module _ (N : ℕ) (s : Cells) where
   only_shows fr term x is path key more none long nodes = lifted_by N s fr more (holes key) term long ∙ is
 
   -- a place of terms stands for a place of the store
-  pub record Spots (fr : List ℕ) (spot : Spot) (place : Place) : Type 0 where
+  pub record Spots (depth : ℕ) (fr : List ℕ) (spot : Spot) (place : Place) : Type 0 where
+    pub reach : reaches depth spot.owner ≡ true
     pub owner : spot.owner ≡ place.owner
     pub path : spot.path ≡ place.path
     pub leads : Leads N s fr spot.at place.at
 
-  pub place_shows : PlacingBinds → (fr : List ℕ) (T : Terms) (c : Store) (spot : Spot) (place : Place) → Rep N s fr T c → Spots fr spot place → Shows fr (shown_at (length fr) T spot) (contents_at c place)
-  place_shows binds fr T c spot place rep spots path key more none long nodes =
-      shown_value N s binds fr T c rep spot place.at path key more none long nodes spots.leads
+  pub place_shows : PlacingBinds → (depth : ℕ) (fr : List ℕ) (T : Terms) (c : Store) (spot : Spot) (place : Place) → Rep N s depth fr T c → Spots depth fr spot place → Shows fr (shown_at (length fr) T spot) (contents_at c place)
+  place_shows binds depth fr T c spot place rep spots path key more none long nodes =
+      shown_value N s binds depth fr T c rep spot spots.reach place.at path key more none long nodes spots.leads
       ∙ ap (λ o. c o (spot.path ++ path) (place.at ++ at_nodes key more)) spots.owner
       ∙ ap (λ p. c place.owner (p ++ path) (place.at ++ at_nodes key more)) spots.path
 
-  module _ (fr : List ℕ) (T : Terms) (c : Store) (rep : Rep N s fr T c) (spot : Spot) (place : Place) (spots : Spots fr spot place) (new : Shown) (contents : Contents) (shows : Shows fr new contents) where
-    module _ (owner : Owner) (path : Path) (key : Key) (ns : List ℕ) (none : NoNodes key) (long : length ns ≡ holes key) (nodes : Nodes N s ns) where
+  module _ (depth : ℕ) (fr : List ℕ) (T : Terms) (c : Store) (rep : Rep N s depth fr T c) (spot : Spot) (place : Place) (spots : Spots depth fr spot place) (new : Shown) (contents : Contents) (shows : Shows fr new contents) where
+    module _ (owner : Owner) (path : Path) (key : Key) (ns : List ℕ) (reach : reaches depth owner ≡ true) (none : NoNodes key) (long : length ns ≡ holes key) (nodes : Nodes N s ns) where
       abbrev old : Value
       old = c owner path (at_nodes key ns)
 
@@ -190,7 +191,7 @@ module _ (N : ℕ) (s : Cells) where
       match_here = match_is fr (holes key) spot.at place.at key [] ns (length fr) spots.leads none long nodes long (omega arith)
 
       renewed_value : (further : Path) (o : Option Match) → IsMatch (fr ++ ns) place.at key ns o → value_of N s (fr ++ ns) (unwrap_or (option_map (renewed_term (length fr) new further (T slot)) o) (T slot)) ≡ renewed contents old (Some further) (beyond same_value place.at (at_nodes key ns))
-      renewed_value further None e = rep owner path key ns none long nodes ∙ sym (ap (renewed contents old (Some further)) e)
+      renewed_value further None e = rep owner path key ns reach none long nodes ∙ sym (ap (renewed contents old (Some further)) e)
       renewed_value further (Some m) e =
           value-If N s (fr ++ ns) (t.And (m.tests ++ m.sames)) (lifted (length fr) m.count (new further m.rest)) (T slot)
           ∙ ap (λ b. cond b (value_of N s (fr ++ ns) (lifted (length fr) m.count (new further m.rest))) (value_of N s (fr ++ ns) (T slot))) (ap truth (value-And N s (fr ++ ns) (m.tests ++ m.sames)) ∙ all_joined (fr ++ ns) m.tests m.sames)
@@ -205,18 +206,18 @@ module _ (N : ℕ) (s : Cells) where
 
           go : (b : Bool) → (list_all (is_true N s (fr ++ ns)) m.tests && list_all (is_true N s (fr ++ ns)) m.sames) ≡ b → cond b (value_of N s (fr ++ ns) (lifted (length fr) m.count (new further m.rest))) (value_of N s (fr ++ ns) (T slot)) ≡ renewed contents old (Some further) (beyond same_value place.at (at_nodes key ns))
           go true was = new_value ∙ sym (ap (renewed contents old (Some further)) (e.found ∙ ap (λ b. cond b (Some (at_nodes m.rest e.rest)) None) was))
-          go false was = rep owner path key ns none long nodes ∙ sym (ap (renewed contents old (Some further)) (e.found ∙ ap (λ b. cond b (Some (at_nodes m.rest e.rest)) None) was))
+          go false was = rep owner path key ns reach none long nodes ∙ sym (ap (renewed contents old (Some further)) (e.found ∙ ap (λ b. cond b (Some (at_nodes m.rest e.rest)) None) was))
 
       under_path : (o : Option Path) → value_of N s (fr ++ ns) (unwrap_or (option_and_then (λ further. option_map (renewed_term (length fr) new further (T slot)) (matched (lifted (length fr) (holes key)) (length fr) spot.at key)) o) (T slot)) ≡ renewed contents old o (beyond same_value place.at (at_nodes key ns))
-      under_path None = rep owner path key ns none long nodes
+      under_path None = rep owner path key ns reach none long nodes
       under_path (Some further) = renewed_value further (matched (lifted (length fr) (holes key)) (length fr) spot.at key) match_here
 
       of_owner : (b : Bool) → value_of N s (fr ++ ns) (unwrap_or (if b then option_and_then (λ further. option_map (renewed_term (length fr) new further (T slot)) (matched (lifted (length fr) (holes key)) (length fr) spot.at key)) (beyond bytes_eq spot.path path) else None) (T slot)) ≡ (if b then renewed contents old (beyond bytes_eq place.path path) (beyond same_value place.at (at_nodes key ns)) else old)
       of_owner true = under_path (beyond bytes_eq spot.path path) ∙ ap (λ p. renewed contents old (beyond bytes_eq p path) (beyond same_value place.at (at_nodes key ns))) spots.path
-      of_owner false = rep owner path key ns none long nodes
+      of_owner false = rep owner path key ns reach none long nodes
 
     -- the terms after the write represent the store after it
-    pub written_rep : Rep N s fr ((written (length fr) T spot new).now) (store_written c place contents)
-    written_rep owner path key ns none long nodes =
-        of_owner owner path key ns none long nodes (same_owner owner spot.owner)
+    pub written_rep : Rep N s depth fr ((written (length fr) T spot new).now) (store_written c place contents)
+    written_rep owner path key ns reach none long nodes =
+        of_owner owner path key ns reach none long nodes (same_owner owner spot.owner)
         ∙ ap (λ o. if same_owner owner o then renewed contents (c owner path (at_nodes key ns)) (beyond bytes_eq place.path path) (beyond same_value place.at (at_nodes key ns)) else c owner path (at_nodes key ns)) spots.owner
