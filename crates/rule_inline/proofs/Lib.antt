@@ -12,3 +12,4 @@ pub mod SceneLemmas
 pub mod QuantifierLemmas
 pub mod PartLemmas
 pub mod ExpressionLaw
+pub mod ChangeLemmas
