@@ -15,23 +15,10 @@ use Rattle.murphi_typed.specs.Expressions.{Given, Filled, Standing, Scene, root_
 use Rattle.murphi_typed.specs.Execution.{formal_holds, formal_fits, formals_fit, filled, entered, called_scene}
 use Rattle.murphi_typed.specs.WellTyped.{Scope, variable_type, formal_type}
 use Rattle.murphi_typed.specs.Keeping.{Declared, AreKept, HasType, SceneFits}
+pub use Rattle.murphi_typed.specs.Keeping.{IsShallow, HasGlobals, inner_types}
 use Rattle.murphi_typed.proofs.LeafLemmas.{some_same, not_some}
 use Rattle.murphi_typed.proofs.KeepLemmas.{HoldsFor, only_holds}
 use Rattle.murphi_typed.proofs.EntryLemmas.{IsOne, FormalGiven, GivenFit}
-
--- no variables deeper than this are declared
-abbrev pub IsShallow : Declared → ℕ → Type 0
-IsShallow types depth = (of k : ℕ) → nat_lt depth of ≡ true → (types (Local of k) ≡ None) × (types (Formal of k) ≡ None)
-
--- the globals of a protocol are declared
-abbrev pub HasGlobals : Declared → List Variable → Type 0
-HasGlobals types globals = (k : ℕ) → types (Global k) ≡ variable_type (slice_get globals k)
-
--- the variables of a body at this depth are declared beside others
-abbrev pub inner_types : ℕ → List DeclaredFormal → List Variable → Declared → Declared
-inner_types depth formals locals types (Global k) = types (Global k)
-inner_types depth formals locals types (Local of k) = if nat_eq of depth then variable_type (slice_get locals k) else types (Local of k)
-inner_types depth formals locals types (Formal of k) = if nat_eq of depth then formal_type false (slice_get formals k) else types (Formal of k)
 
 same_if : {A : Type 0} (x y : A) (b : Bool) → b ≡ true → (if b then x else y) ≡ x
 same_if x y true e = refl

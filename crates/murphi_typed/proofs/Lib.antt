@@ -15,3 +15,4 @@ pub mod StateLemmas
 pub mod ValueLemmas
 pub mod ExpressionLemmas
 pub mod TopLemmas
+pub mod TypedLemmas

@@ -17,16 +17,12 @@ use Rattle.murphi_typed.specs.Expressions.{Given, Scene, Calls}
 use Rattle.murphi_typed.specs.Execution.{Ending, Next, Returned, run, formals_fit, entered, called_scene, ended, call_of, calls_of, routine_calls}
 use Rattle.murphi_typed.specs.WellTyped.{is_type, is_simple_type, formal_allowed, are_variables, stmt_fits, routine_scope, routine_fits, routines_fit}
 use Rattle.murphi_typed.specs.Keeping.{Declared, AreKept}
+pub use Rattle.murphi_typed.specs.Keeping.{LatestFit}
 use Rattle.murphi_typed.proofs.LeafLemmas.{some_same, not_some}
 use Rattle.murphi_typed.proofs.KeepLemmas.{IfGot, if_given}
 use Rattle.murphi_typed.proofs.EntryLemmas.{GivenFit}
 use Rattle.murphi_typed.proofs.InnerLemmas.{IsShallow, HasGlobals, inner_types, widen, inner_shallow, entered_kept, inner_fits}
 use Rattle.murphi_typed.proofs.BodyLemmas.{LeftKept, EndingKept, CallsKeep, run_kept}
-
--- each routine of a list fits where it may call those after it, which are in text order the other way round
-abbrev pub LatestFit : Typed → List Routine → Type 0
-LatestFit T [] = Unit {0}
-LatestFit T (r ∷ earlier) = (routine_fits T (reverse earlier) r ≡ true) × LatestFit T earlier
 
 ended_kept : (types : Declared) (result : Option Simple) (scene : Scene) (at : Span) (ending : Ending) → EndingKept scene.nodes types ending → IfGot (LeftKept scene.nodes types) (ended result scene at ending)
 ended_kept types None scene at (Next cells) kept = kept
@@ -78,7 +74,7 @@ get_before (y ∷ xs) x r (suc k) e other = get_before xs x r k e (λ same. othe
 pub reversed : {A : Type 0} (x : A) (xs : List A) → reverse (x ∷ xs) ≡ reverse xs ++ x ∷ []
 reversed x xs = reverse-append (x ∷ []) xs
 
-latest_kept : (T : Typed) (latest : List Routine) → LatestFit T latest → CallsKeep T.globals (reverse latest) (calls_of latest)
+pub latest_kept : (T : Typed) (latest : List Routine) → LatestFit T latest → CallsKeep T.globals (reverse latest) (calls_of latest)
 latest_kept T [] fit k r found types scene at gs cells shallow has given_fit kept = tt
 latest_kept T (l ∷ earlier) fit k r found types scene at gs cells shallow has given_fit kept =
     go (nat_eq k (length earlier)) refl (subst (λ rs. slice_get rs k ≡ Some r) (reversed l earlier) found) (latest_kept T earlier fit.1)
@@ -89,7 +85,7 @@ latest_kept T (l ∷ earlier) fit k r found types scene at gs cells shallow has 
         call_kept T (reverse earlier) (calls_of earlier) keeps l fit.0 types scene at gs cells shallow has (subst (λ q. GivenFit scene.nodes types q.formals gs) (sym same) given_fit) kept
     go false was there keeps = keeps k r (get_before (reverse earlier) l r k there (λ same. eqb-false k (length earlier) was (same ∙ length-reverse earlier))) types scene at gs cells shallow has given_fit kept
 
-latest_fit : (T : Typed) (before rest : List Routine) → LatestFit T (reverse before) → routines_fit T before rest ≡ true → LatestFit T (reverse (before ++ rest))
+pub latest_fit : (T : Typed) (before rest : List Routine) → LatestFit T (reverse before) → routines_fit T before rest ≡ true → LatestFit T (reverse (before ++ rest))
 latest_fit T before [] fit e = subst (λ rs. LatestFit T (reverse rs)) (sym (append-nil before)) fit
 latest_fit T before (r ∷ rest) fit e =
     let (one, more) = and_parts (routine_fits T before r) (routines_fit T (before ++ r ∷ []) rest) e in

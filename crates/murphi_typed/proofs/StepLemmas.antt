@@ -24,6 +24,7 @@ use Rattle.murphi_typed.specs.Execution.{cells_after, run}
 use Rattle.murphi_typed.specs.Steps.{State, same_list, is_cell, listed, cells_of, value_in, state_of, outermost, calls_in, state_after, guarded, Starts, Steps, IsRun, IsReached}
 use Rattle.murphi_typed.specs.WellTyped.{is_type, variable_type, are_variables, are_parameter_types, top_scope, stmt_fits, guard_fits, rule_fits, start_fits, routines_fit, formula_fits, is_well_typed}
 use Rattle.murphi_typed.specs.Keeping.{Declared, AreKept, IsState, SceneFits}
+unfoldable pub use Rattle.murphi_typed.specs.Keeping.{top_types}
 use Rattle.murphi_typed.proofs.TestLemmas.{owners_true, names_true, lists_true}
 use Rattle.murphi_typed.proofs.LeafLemmas.{some_same, not_some}
 use Rattle.murphi_typed.proofs.KeepLemmas.{IfGot, if_given, if_after}
@@ -64,20 +65,14 @@ listed_kept N globals types has (c ∷ cs) (v ∷ vs) fine may owner type declar
         let same : c.way.leaf ≡ leaf = some_same (sym leads' ∙ ap (leaf_at type') (lists_true bytes_eq names_true (path_of c.way.steps) path p) ∙ ap (λ u. leaf_at u path) one ∙ leads) in
         ap (λ s. may_hold N s v) (sym same) ∙ may 0 c v refl refl
 
-blank_kept : (N : ℕ) (types : Declared) → AreKept N types blank
+pub blank_kept : (N : ℕ) (types : Declared) → AreKept N types blank
 blank_kept N types owner type declared path leaf leads at = refl
-
--- the variables of the body of a rule or of a start state
-pub top_types : Typed → List Variable → Declared
-top_types T locals (Global k) = variable_type (slice_get T.globals k)
-top_types T locals (Local of k) = if nat_eq of 0 then variable_type (slice_get locals k) else None
-top_types T locals (Formal of k) = None
 
 pub top_has : (T : Typed) (locals : List Variable) → HasGlobals (top_types T locals) T.globals
 unfolding top_types
 top_has T locals k = refl
 
-top_shallow : (T : Typed) (locals : List Variable) → IsShallow (top_types T locals) 0
+pub top_shallow : (T : Typed) (locals : List Variable) → IsShallow (top_types T locals) 0
 unfolding top_types
 top_shallow T locals of k deep = (go (nat_eq of 0) refl, refl)
   where

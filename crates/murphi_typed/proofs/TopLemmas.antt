@@ -32,20 +32,20 @@ use Rattle.murphi_typed.proofs.RoutineLemmas.{get_last, get_before, reversed}
 use Rattle.murphi_typed.proofs.StepLemmas.{all_at, all_fine, listed_kept, top_types, top_has, top_fits}
 use Rattle.murphi_typed.proofs.ExpressionLemmas.{value_typed, got_facts}
 
-variable_fine : (kinds : List Kind) (vs : List Variable) (k : ℕ) (U : AnyType) → are_variables kinds vs ≡ true → variable_type (slice_get vs k) ≡ Some U → is_type kinds U ≡ true
+pub variable_fine : (kinds : List Kind) (vs : List Variable) (k : ℕ) (U : AnyType) → are_variables kinds vs ≡ true → variable_type (slice_get vs k) ≡ Some U → is_type kinds U ≡ true
 variable_fine kinds vs k U fine e = go (slice_get vs k) refl e
   where
     go : (o : Option Variable) → slice_get vs k ≡ o → variable_type o ≡ Some U → is_type kinds U ≡ true
     go None was e = absurd (not_some e)
     go (Some v) was e = ap (is_type kinds) (sym (some_same e)) ∙ all_at (λ (w : Variable). is_type kinds w.of) vs k v fine was
 
-roots_fine : (T : Typed) (locals : List Variable) (params : List Parameter) → are_variables T.kinds T.globals ≡ true → are_variables T.kinds locals ≡ true → RootsFine (top_scope T locals params)
+pub roots_fine : (T : Typed) (locals : List Variable) (params : List Parameter) → are_variables T.kinds T.globals ≡ true → are_variables T.kinds locals ≡ true → RootsFine (top_scope T locals params)
 roots_fine T locals params globals fine (root.Global k) U e = variable_fine T.kinds T.globals k U globals e
 roots_fine T locals params globals fine (root.Local k) U e = variable_fine T.kinds locals k U fine e
 roots_fine T locals params globals fine (root.Formal k) U e = absurd (not_some e)
 roots_fine T locals params globals fine (root.Place k) U e = absurd (not_some e)
 
-parameters_fit : (N : ℕ) (kinds : List Kind) (params : List Parameter) (p : List Value) → are_parameter_types kinds params ≡ true → are_parameters N params p ≡ true → (k : ℕ) (s : Simple) (v : Value) → slice_get (map (λ (q : Parameter). q.over) params) k ≡ Some s → slice_get p k ≡ Some v → (is_value N s v ≡ true) × (is_simple_type kinds s ≡ true)
+pub parameters_fit : (N : ℕ) (kinds : List Kind) (params : List Parameter) (p : List Value) → are_parameter_types kinds params ≡ true → are_parameters N params p ≡ true → (k : ℕ) (s : Simple) (v : Value) → slice_get (map (λ (q : Parameter). q.over) params) k ≡ Some s → slice_get p k ≡ Some v → (is_value N s v ≡ true) × (is_simple_type kinds s ≡ true)
 parameters_fit N kinds [] p types values k s v here there = absurd (not_some here)
 parameters_fit N kinds (q ∷ qs) [] types values k s v here there = absurd (not_some there)
 parameters_fit N kinds (q ∷ qs) (w ∷ ws) types values zero s v here there =
@@ -77,7 +77,7 @@ call_valued calls r s is scene at gs cells = go (formals_fit scene.nodes r.forma
     go true = if_after (Resulting scene.nodes s) (run calls (called_scene scene gs) (entered (suc scene.depth) gs cells) r.body) (ended r.result scene at) (λ ending. subst (λ o. IfGot (Resulting scene.nodes s) (ended o scene at ending)) (sym is) (ended_valued s scene at ending))
     go false = tt
 
-latest_valued : (latest : List Routine) (k : ℕ) (r : Routine) (s : Simple) → slice_get (reverse latest) k ≡ Some r → r.result ≡ Some s → (scene : Scene) (at : Span) (gs : List Given) (cells : Cells) → IfGot (Resulting scene.nodes s) (calls_of latest k scene at gs cells)
+pub latest_valued : (latest : List Routine) (k : ℕ) (r : Routine) (s : Simple) → slice_get (reverse latest) k ≡ Some r → r.result ≡ Some s → (scene : Scene) (at : Span) (gs : List Given) (cells : Cells) → IfGot (Resulting scene.nodes s) (calls_of latest k scene at gs cells)
 latest_valued [] k r s found is scene at gs cells = tt
 latest_valued (l ∷ earlier) k r s found is scene at gs cells =
     go (nat_eq k (length earlier)) refl (subst (λ rs. slice_get rs k ≡ Some r) (reversed l earlier) found) (λ there. latest_valued earlier k r s there is scene at gs cells)
@@ -99,7 +99,7 @@ result_fine T before (l ∷ rs) (suc k) r s fit found is =
     let (one, rest) = and_parts (routine_fits T before l) (routines_fit T (before ++ l ∷ []) rs) fit in
     result_fine T (before ++ l ∷ []) rs k r s rest found is
 
-resulting_facts : (N : ℕ) (s : Simple) (o : Outcome Left) (left : Left) (v : Value) → IfGot (Resulting N s) o → o ≡ Got left → left.result ≡ Some v → is_value N s v ≡ true
+pub resulting_facts : (N : ℕ) (s : Simple) (o : Outcome Left) (left : Left) (v : Value) → IfGot (Resulting N s) o → o ≡ Got left → left.result ≡ Some v → is_value N s v ≡ true
 resulting_facts N s o left v fact is has = subst (λ p. IfGot (Resulting N s) p) is fact v has
 
 pub top_valued : (N : ℕ) (T : Typed) (state : State) (locals : List Variable) (params : List Parameter) (p : List Value) (at : Span) (e : Expr) (type : Simple) (v : Value) → IsTrue (is_well_typed T) → IsState N T state → are_variables T.kinds locals ≡ true → are_parameter_types T.kinds params ≡ true → are_parameters N params p ≡ true → type_of (top_scope T locals params) e ≡ Some type → value_of (calls_in T) (outermost N p) at (cells_of N T state) e ≡ Got v → is_value N type v ≡ true

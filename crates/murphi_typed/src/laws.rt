@@ -1,6 +1,6 @@
 //! What holds of the meaning of every typed protocol: laws, each on a function that does nothing.
 
-ghost use Rattle.murphi_typed.specs.Laws.{StartsLeaveStates, StepsLeadToStates, ReachedAreStates, StatesHaveValues, ValuesFitInBodies, ValuesFitInStates};
+ghost use Rattle.murphi_typed.specs.Laws.{StartsLeaveStates, StepsLeadToStates, ReachedAreStates, StatesHaveValues, ValuesFitInBodies, ValuesFitInStates, BodiesKeepTypes, FunctionsGiveResults, CalledBodiesAreTyped, TopBodiesAreTyped, BlankBodiesAreTyped};
 ghost use Rattle.murphi_typed.specs.Worked.{ExpressionsAreAsWorked, QuantifiersAreAsWorked, AssignmentsAreAsWorked};
 ghost use Rattle.murphi_typed.specs.WorkedBodies.{ChoicesAreAsWorked, CallsAreAsWorked};
 ghost use Rattle.murphi_typed.specs.WorkedSteps.{StepsAreAsWorked, CellsAreAsWorked, PrefixesAreAsWorked, TypesAreAsWorked};
@@ -37,4 +37,15 @@ pub fn states_have_the_values_of_their_cells()
 pub fn expressions_have_values_of_their_types()
     ensures inner { ValuesFitInBodies }
     ensures top { ValuesFitInStates }
+{}
+
+/// The bodies of a well-typed protocol keep to their types: those of rules, start states and formulas in
+/// every state, and then those of the routines that they call. A body that does leaves every cell within
+/// its type.
+pub fn bodies_keep_to_their_types()
+    ensures cells { BodiesKeepTypes }
+    ensures results { FunctionsGiveResults }
+    ensures called { CalledBodiesAreTyped }
+    ensures top { TopBodiesAreTyped }
+    ensures blank { BlankBodiesAreTyped }
 {}

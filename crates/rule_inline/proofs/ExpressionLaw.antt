@@ -1,0 +1,322 @@
+-- Expressions, designators and arguments: where one faults a demand of it is false for some nodes, else its term has
+-- its value. What functions do is given.
+use Rattle.std.proofs.Common.{◌≡◌, ℕ, zero, suc, ◌+◌, ◌<◌, Bool, true, false, not, ◌&&◌, ◌||◌, cond, List, [], ◌∷◌, ◌++◌, length, map, Option, None, Some, ◌⊎◌, inl, inr, refl, sym, ap, ◌∙◌, subst, append_assoc, append-nil}
+use Rattle.std.specs.Prelude.{pos, slice_get, option_map, option_and_then, is_some, if◌then◌else◌, unwrap_or}
+use Rattle.std.specs.List.{list_all, list_any}
+use Rattle.std.specs.Option.{option_map_or}
+use Rattle.std.proofs.lemmas.Bool.{and_parts}
+use Rattle.std.proofs.lemmas.Option.{slice_get_within}
+use Rattle.term_core.specs.declared.value.Value.{Value}
+use Rattle.term_core.specs.declared.value.Value.TheVariants as v
+use Rattle.term_core.specs.declared.value.ArithOp.TheVariants as operation
+use Rattle.term_core.specs.declared.term.Term as t
+use Rattle.term_core.specs.declared.term.Term.{Term}
+use Rattle.term_core.specs.Nodes.{is_node, nodes}
+use Rattle.term_core.specs.Values.{truth, number, same_value}
+use Rattle.term_core.specs.Meaning.{Cells, value_of, holds_at}
+use Rattle.term_core.specs.Laws.{PlacingBinds}
+use Rattle.murphi_ast.specs.declared.token.Span.{Span}
+use Rattle.murphi_ast.specs.declared.expr.ChainOp.{ChainOp}
+use Rattle.murphi_ast.specs.declared.expr.ChainOp.TheVariants as op
+use Rattle.murphi_ast.specs.declared.expr.CompareOp.{CompareOp}
+use Rattle.murphi_ast.specs.declared.expr.CompareOp.TheVariants as compare
+use Rattle.murphi_typed.specs.declared.types.Simple.{Simple}
+use Rattle.murphi_typed.specs.declared.types.Simple.TheVariants as simple
+use Rattle.murphi_typed.specs.declared.types.AnyType as type
+use Rattle.murphi_typed.specs.declared.types.AnyType.{AnyType}
+use Rattle.murphi_typed.specs.declared.expr.Root.{Root}
+use Rattle.murphi_typed.specs.declared.expr.Expr as x
+use Rattle.murphi_typed.specs.declared.expr.Expr.{Expr, end_of-Expr, more_of-Expr, Row_of-Link, end_of-Link, more_of-Link}
+use Rattle.murphi_typed.specs.declared.expr.Designator as d
+use Rattle.murphi_typed.specs.declared.expr.Designator.{Designator, Row_of-Selector, end_of-Selector, more_of-Selector}
+use Rattle.murphi_typed.specs.declared.expr.Selector as select
+use Rattle.murphi_typed.specs.declared.expr.Arguments as a
+use Rattle.murphi_typed.specs.declared.expr.Arguments.{Arguments, Row_of-Argument, end_of-Argument, more_of-Argument}
+use Rattle.murphi_typed.specs.declared.expr.Argument as argument
+use Rattle.murphi_typed.specs.declared.protocol.Routine.{Routine}
+use Rattle.murphi_typed.specs.declared.protocol.Formal.{Formal as DeclaredFormal}
+use Rattle.murphi_typed.specs.Forms.{NotForm, MinusForm, CompareForm, ImpliesForm, ChoiceForm, QuantifiedForm}
+use Rattle.murphi_typed.specs.Values.{is_value, values}
+use Rattle.murphi_typed.specs.Store.{Place, Contents, Cells as Store, cell_at, contents_at, only}
+use Rattle.murphi_typed.specs.Outcome.{Outcome, Got, Fault, given, or_fault}
+use Rattle.murphi_typed.specs.Expressions.{Given, Filled, Standing, Scene, Left, Calls, as_truth, calculated, joined, compared, defined, over_all, with_bound, root_place, under, row_path, fitting, value_of as worked, chain_value as worked_chain, place_of, indices_of as worked_indices, arguments_of, row_arguments, argument_of}
+use Rattle.murphi_typed.specs.Prefix.{is_over_nodes}
+use Rattle.murphi_typed.specs.WellTyped.{Scope, binding as scope_binding, numbers, widened, is_simple_type, root_type, simple_part, field_part, item_part, is_of, only_if, operand_type, comparable, first_of, rest_of, is_compound, may_write, root_of, given_value, given_compound, given_place, type_of, chain_type, place_type, selected_type, arguments_fit, row_fits, argument_fits}
+use Rattle.murphi_typed.specs.Keeping.{Declared}
+use Rattle.murphi_typed.specs.Laws.{ValuesFitInBodies}
+use Rattle.rule_inline.specs.Demands.{Demand, demand, under_test, binding}
+use Rattle.rule_inline.specs.Tables.{Leaving, Result, Terms, under_variable, Index, Spot, Shown, shown_at, read_of, only_term}
+use Rattle.rule_inline.specs.Parts.{Given as Gift, Filled as Filling, Standing as Placing, Site, with_value, with_variable, Valued, Placed, Indexed, Argued, Calls as TermCalls, fixed_values, undefined, is_defined, index_fits, whole, result_fits, calculated as calculated_term, joined as joined_term, compared as compared_term, after, negated, compared_values, implied, choice, over_values, terms_of, mark_of, place_mark, root_spot, index_over, valued_of, chain_of, placed_of, indices_of, argued_of, row_argued, one_argued, placed_under, with_calls, over_nodes, demands_of}
+use Rattle.rule_inline.proofs.ValueLemmas.{absurd_false}
+use Rattle.rule_inline.proofs.TermLemmas.{value-Known, value-Not, value-And, value-Or, value-If, value-Same, value-Less, value-Quantified, is_true, length-one_more, append_nothing}
+use Rattle.rule_inline.proofs.Outcome.{Either, either_map, AllHold, SomeFails, Tells, tells_given, tells_then, tells_map, tells_test, tells_under, all_beside}
+use Rattle.rule_inline.proofs.PlaceLemmas.{NoNodes, Rep, IndexIs, Leads}
+use Rattle.rule_inline.proofs.WriteLemmas.{Shows, only_shows, Spots, place_shows}
+use Rattle.rule_inline.proofs.TypeLemmas.{not_some, some_one, only_parts, simples_one, of_type, not_undefined, defined_is, index_is, EachValue, are_values, values_fixed, index_leads}
+use Rattle.rule_inline.proofs.ArithLemmas.{number_value, tells_calculated}
+use Rattle.rule_inline.proofs.SceneLemmas.{Sound, sound_binding, GiftIs, GiftsAre, bound_there, rep_under, at_frame, inner, Sited, site_under, site_value, root_spots}
+use Rattle.rule_inline.proofs.QuantifierLemmas.{given_twice, tells_before, tells_after, tells_nodes, quantified, tells_values}
+use Rattle.rule_inline.proofs.PartLemmas.{Here, ArgIs, ArgsAre, FunctionTells, widened_found, found_simple, bound_found, none_selected, none_chain, rooted, equal_types, comparable_types, operand_widened, row_more, value_typed, compound_typed, place_typed, each_map, leads_joined, tells_got, IsTold, IsTyped, told_not, told_minus, told_compared, told_implied, told_choice, told_chain, defined_told, index_told}
+
+-- what a function leaves is its result
+tells_result : (N : ℕ) (s : Cells) (fr : List ℕ) (at : Span) (qs : List Demand) (o : Outcome Left) (term : Term) → Tells N s fr o qs (λ left. (w : Value) × (left.result ≡ Some w) × (value_of N s fr term ≡ w)) → Tells N s fr (given o (λ left. or_fault at left.result)) qs (λ y. value_of N s fr term ≡ y)
+tells_result N s fr at qs (Fault place) term bad = bad
+tells_result N s fr at qs (Got left) term (good, facts) =
+    let (w, is, value) = facts in
+    subst (λ o. Tells N s fr (or_fault at o) qs (λ y. value_of N s fr term ≡ y)) (sym is) (good, value)
+
+module _ (binds : PlacingBinds) (fit : ValuesFitInBodies) (s : Cells) (types : Declared) (calls : Calls) (routines : List Routine) (tcalls : TermCalls) (functions : (h : Here s types calls routines) → FunctionTells s types calls routines tcalls h) where
+  abbrev H : Type 0
+  H = Here s types calls routines
+
+  abbrev result : H → Expr → Outcome Value
+  result h e = worked calls h.scene h.at h.cells e
+
+  abbrev taken : H → Expr → Valued
+  taken h e = valued_of tcalls (at_frame h.fr h.site) h.T e
+
+  abbrev Told : H → Outcome Value → Valued → Type 0
+  Told h o e = IsTold h.scene.nodes s h.fr o e
+
+  typed : (h : H) (e : Expr) (u : Simple) → type_of h.scope e ≡ Some u → (w : Value) → result h e ≡ Got w → is_value h.scene.nodes u w ≡ true
+  typed h e u is w was = fit types calls h.scope h.scene h.at h.cells h.sound.fits h.sound.fine h.sound.bound h.sound.results h.sound.kept e u w is was
+
+  abbrev pub here_value : (h : H) (over : Simple) (w : Value) → is_value h.scene.nodes over w ≡ true → is_simple_type h.scope.kinds over ≡ true → H
+  here_value h over w is fine = record {
+    scope = scope_binding h.scope over;
+    scene = with_bound h.scene w;
+    fr = h.fr;
+    site = with_value h.site w;
+    T = h.T;
+    cells = h.cells;
+    at = h.at;
+    sound = sound_binding types calls routines h.scope h.scene h.cells over w h.sound is fine;
+    sited = site_value s h.fr h.site h.scene w h.sited;
+    rep = h.rep }
+
+  abbrev pub here_node : (h : H) (n : ℕ) → is_node h.scene.nodes n ≡ true → H
+  here_node h n is = record {
+    scope = scope_binding h.scope simple.Node;
+    scene = with_bound h.scene (v.Node n);
+    fr = h.fr ++ n ∷ [];
+    site = inner h.fr h.site;
+    T = under_variable (length h.fr) h.T;
+    cells = h.cells;
+    at = h.at;
+    sound = sound_binding types calls routines h.scope h.scene h.cells simple.Node (v.Node n) h.sound is refl;
+    sited = site_under s h.fr h.site h.scene n h.sited;
+    rep = rep_under h.scene.nodes s h.scene.depth h.fr h.T h.cells n h.rep }
+
+  read_value : (h : H) (spot : Spot) (p : Place) → Spots h.scene.nodes s h.scene.depth h.fr spot p → value_of h.scene.nodes s h.fr (read_of (length h.fr) h.T spot) ≡ cell_at h.cells p
+  read_value h spot p spots =
+      ap (λ xs. value_of h.scene.nodes s xs (read_of (length h.fr) h.T spot)) (sym (append_nothing h.fr))
+      ∙ place_shows h.scene.nodes s binds h.scene.depth h.fr h.T h.cells spot p h.rep spots [] [] [] tt refl refl
+      ∙ ap (λ path. h.cells p.owner path (p.at ++ [])) (append_nothing p.path)
+      ∙ ap (h.cells p.owner p.path) (append_nothing p.at)
+
+  bound_told : (h : H) (k : ℕ) (u : Simple) → option_map widened (slice_get h.scope.bound k) ≡ Some u → Told h (or_fault h.at (slice_get h.scene.bound k)) (record { term = unwrap_or (slice_get h.site.bound k) undefined; demands = [] })
+  bound_told h k u e =
+      let (w, found) = bound_found (slice_get h.scope.bound k) u e in
+      let less : k < length h.scene.bound = subst (λ m. k < m) h.sound.lengths (slice_get_within h.scope.bound k w found) in
+      let (y, there, is) = bound_there h.scene.nodes s h.fr h.site.bound h.scene.bound k h.sited.bound less in
+      subst (λ o. Told h (or_fault h.at o) (record { term = unwrap_or (slice_get h.site.bound k) undefined; demands = [] })) (sym there) (tt, is)
+
+  quantified_told : (h : H) (all : Bool) (es : List Valued) (o : Outcome Bool) → Tells h.scene.nodes s h.fr o (demands_of es) (λ b. b ≡ quantified h.scene.nodes s h.fr all es) → Told h (given o (λ b. Got (v.Truth b))) (over_values all es)
+  quantified_told h true es o told = tells_then h.scene.nodes s h.fr (demands_of es) o v.Truth _ _ told (λ b e. value-And h.scene.nodes s h.fr (terms_of es) ∙ ap v.Truth (sym e))
+  quantified_told h false es o told = tells_then h.scene.nodes s h.fr (demands_of es) o v.Truth _ _ told (λ b e. value-Or h.scene.nodes s h.fr (terms_of es) ∙ ap v.Truth (sym e))
+
+  -- a quantifier over a type that is not of nodes
+  finite_told : (h : H) (all : Bool) (over : Simple) (body : Expr) → is_over_nodes over ≡ false → ((w : Value) (is : is_value h.scene.nodes over w ≡ true) → Told h (worked calls (with_bound h.scene w) h.at h.cells body) (valued_of tcalls (with_value (at_frame h.fr h.site) w) h.T body)) → Told h (given (over_all all (λ w. worked calls (with_bound h.scene w) h.at h.cells body) (values h.scene.nodes over)) (λ b. Got (v.Truth b))) (over_values all (map (λ w. valued_of tcalls (with_value (at_frame h.fr h.site) w) h.T body) (fixed_values over)))
+  finite_told h all over body nn each =
+      subst (λ xs. Told h (given (over_all all (λ w. worked calls (with_bound h.scene w) h.at h.cells body) xs) (λ b. Got (v.Truth b))) (over_values all (map (λ w. valued_of tcalls (with_value (at_frame h.fr h.site) w) h.T body) (fixed_values over)))) (sym (values_fixed h.scene.nodes over nn))
+      (quantified_told h all (map (λ w. valued_of tcalls (with_value (at_frame h.fr h.site) w) h.T body) (fixed_values over)) (over_all all (λ w. worked calls (with_bound h.scene w) h.at h.cells body) (fixed_values over))
+      (tells_values h.scene.nodes s h.fr all (λ w. worked calls (with_bound h.scene w) h.at h.cells body) (λ w. valued_of tcalls (with_value (at_frame h.fr h.site) w) h.T body) (fixed_values over) (each_map (fixed_values over) each (are_values h.scene.nodes over nn))))
+
+  -- a quantifier over nodes
+  nodes_told : (h : H) (all : Bool) (body : Expr) → ((n : ℕ) (is : is_node h.scene.nodes n ≡ true) → Told (here_node h n is) (result (here_node h n is) body) (taken (here_node h n is) body)) → Told h (given (over_all all (λ w. worked calls (with_bound h.scene w) h.at h.cells body) (values h.scene.nodes simple.Node)) (λ b. Got (v.Truth b))) (over_nodes all (valued_of tcalls (with_variable (at_frame h.fr h.site)) (under_variable (length h.fr) h.T) body))
+  nodes_told h all body each =
+      tells_then h.scene.nodes s h.fr (binding e.demands) (over_all all (λ w. worked calls (with_bound h.scene w) h.at h.cells body) (values h.scene.nodes simple.Node)) v.Truth _ _
+      (tells_nodes h.scene.nodes s h.fr all (λ w. worked calls (with_bound h.scene w) h.at h.cells body) (λ n. is_true h.scene.nodes s (h.fr ++ n ∷ []) e.term) e.demands
+      (λ n is. tells_map h.scene.nodes s (h.fr ++ n ∷ []) e.demands (worked calls (with_bound h.scene (v.Node n)) h.at h.cells body) _ _ (one n is) (λ y same. ap truth (sym same))))
+      (λ b same. value-Quantified h.scene.nodes s h.fr all e.term ∙ ap v.Truth (sym same))
+    where
+      e : Valued
+      e = valued_of tcalls (with_variable (at_frame h.fr h.site)) (under_variable (length h.fr) h.T) body
+
+      one : (n : ℕ) (is : is_node h.scene.nodes n ≡ true) → IsTold h.scene.nodes s (h.fr ++ n ∷ []) (worked calls (with_bound h.scene (v.Node n)) h.at h.cells body) e
+      one n is = subst (λ m. IsTold h.scene.nodes s (h.fr ++ n ∷ []) (worked calls (with_bound h.scene (v.Node n)) h.at h.cells body) (valued_of tcalls (record (inner h.fr h.site) { frame = m }) (under_variable (length h.fr) h.T) body)) (length-one_more h.fr n) (each n is)
+
+  -- a designator, given its indices
+  designator_told : {n : _} (h : H) (root : Root) (selectors : Row_of-Selector n) (U : AnyType) → selected_type h.scope (root_type h.scope root) selectors ≡ Some U → Tells h.scene.nodes s h.fr (worked_indices calls h.scene h.at h.cells selectors) ((indices_of tcalls (at_frame h.fr h.site) h.T selectors).demands) (λ xs. Leads h.scene.nodes s h.fr ((indices_of tcalls (at_frame h.fr h.site) h.T selectors).indices) xs) → Tells h.scene.nodes s h.fr (given (or_fault h.at (root_place h.scene root)) (λ p. given (worked_indices calls h.scene h.at h.cells selectors) (λ indices. Got (under p (row_path selectors) indices)))) ((indices_of tcalls (at_frame h.fr h.site) h.T selectors).demands) (λ p. Spots h.scene.nodes s h.scene.depth h.fr (placed_under (root_spot (at_frame h.fr h.site) root) (row_path selectors) (indices_of tcalls (at_frame h.fr h.site) h.T selectors)).spot p)
+  designator_told h root selectors U e told =
+      let (W, rooted_is) = rooted h.scope (root_type h.scope root) selectors U e in
+      let (p, found, has) = h.sound.fits root W rooted_is in
+      let base = root_spots s h.fr h.site h.scene root p h.sited found in
+      subst (λ o. Tells h.scene.nodes s h.fr (given (or_fault h.at o) (λ p. given (worked_indices calls h.scene h.at h.cells selectors) (λ indices. Got (under p (row_path selectors) indices)))) ((indices_of tcalls (at_frame h.fr h.site) h.T selectors).demands) (λ p. Spots h.scene.nodes s h.scene.depth h.fr (placed_under (root_spot (at_frame h.fr h.site) root) (row_path selectors) (indices_of tcalls (at_frame h.fr h.site) h.T selectors)).spot p)) (sym found)
+      (tells_then h.scene.nodes s h.fr ((indices_of tcalls (at_frame h.fr h.site) h.T selectors).demands) (worked_indices calls h.scene h.at h.cells selectors) (λ indices. under p (row_path selectors) indices) _ _ told
+      (λ xs leads. record { reach = base.reach; owner = base.owner; path = ap (λ path. path ++ row_path selectors) base.path; leads = leads_joined h.scene.nodes s h.fr (root_spot (at_frame h.fr h.site) root).at ((indices_of tcalls (at_frame h.fr h.site) h.T selectors).indices) p.at xs base.leads leads }))
+
+  -- a call of a function, given its arguments
+  call_told : (h : H) (k : ℕ) (args : Arguments) (u : Simple) → option_and_then (λ r. only_if (arguments_fit h.scope r.formals args) (option_map widened r.result)) (slice_get h.scope.routines k) ≡ Some u → ((formals : List DeclaredFormal) → arguments_fit h.scope formals args ≡ true → Tells h.scene.nodes s h.fr (arguments_of calls h.scene h.at h.cells args) ((argued_of tcalls (at_frame h.fr h.site) h.T args).demands) (λ gs. ArgsAre h.scene.nodes s h.scene.depth h.fr ((argued_of tcalls (at_frame h.fr h.site) h.T args).given) gs)) → Told h (given (arguments_of calls h.scene h.at h.cells args) (λ gs. given (calls k h.scene h.at gs h.cells) (λ left. or_fault h.at left.result))) (with_calls tcalls k (at_frame h.fr h.site) h.T (argued_of tcalls (at_frame h.fr h.site) h.T args))
+  call_told h k args u e arguments = go (slice_get h.scope.routines k) refl e
+    where
+      given_args : Argued
+      given_args = argued_of tcalls (at_frame h.fr h.site) h.T args
+
+      inner_told : (r : Routine) (w : Simple) → slice_get h.scope.routines k ≡ Some r → r.result ≡ Some w → arguments_fit h.scope r.formals args ≡ true → Told h (given (arguments_of calls h.scene h.at h.cells args) (λ gs. given (calls k h.scene h.at gs h.cells) (λ left. or_fault h.at left.result))) (with_calls tcalls k (at_frame h.fr h.site) h.T given_args)
+      inner_told r w found is fits =
+          tells_given h.scene.nodes s h.fr given_args.demands ((tcalls k (at_frame h.fr h.site) h.T given_args.given).demands ++ demand ((tcalls k (at_frame h.fr h.site) h.T given_args.given).change.now Leaving) ∷ []) (arguments_of calls h.scene h.at h.cells args) (λ gs. given (calls k h.scene h.at gs h.cells) (λ left. or_fault h.at left.result)) _ _ (arguments r.formals fits)
+          (λ gs was ok. tells_result h.scene.nodes s h.fr h.at _ (calls k h.scene h.at gs h.cells) _ (functions h k r w args gs given_args.given (ap (λ rs. slice_get rs k) (sym h.sound.known) ∙ found) is fits was ok))
+
+      go : (o : Option Routine) → slice_get h.scope.routines k ≡ o → option_and_then (λ r. only_if (arguments_fit h.scope r.formals args) (option_map widened r.result)) o ≡ Some u → Told h (given (arguments_of calls h.scene h.at h.cells args) (λ gs. given (calls k h.scene h.at gs h.cells) (λ left. or_fault h.at left.result))) (with_calls tcalls k (at_frame h.fr h.site) h.T given_args)
+      go None found e = not_some e
+      go (Some r) found e =
+          let (fits, is) = only_parts (arguments_fit h.scope r.formals args) (option_map widened r.result) u e in
+          let (w, result_is) = bound_found r.result u is in
+          inner_told r w found result_is fits
+
+  undefined_value : (h : H) (spot : Spot) (p : Place) → value_of h.scene.nodes s h.fr (read_of (length h.fr) h.T spot) ≡ cell_at h.cells p → value_of h.scene.nodes s h.fr (t.Same (read_of (length h.fr) h.T spot) undefined) ≡ v.Truth (same_value (cell_at h.cells p) v.Undefined)
+  undefined_value h spot p is = value-Same h.scene.nodes s h.fr (read_of (length h.fr) h.T spot) undefined ∙ ap (λ y. v.Truth (same_value y (value_of h.scene.nodes s h.fr undefined))) is ∙ ap (λ y. v.Truth (same_value (cell_at h.cells p) y)) (value-Known h.scene.nodes s h.fr v.Undefined)
+
+  filled_is : (h : H) (mark : Option ℕ) (term : Term) (g : Given) → ((y : Value) × (g ≡ Filled (only y)) × (value_of h.scene.nodes s h.fr term ≡ y) × (same_value y v.Undefined ≡ false)) → ArgIs h.scene.nodes s h.scene.depth h.fr (Filling mark false (only_term (length h.fr) term)) g
+  filled_is h mark term g facts =
+      let (y, g_is, value, there) = facts in
+      subst (λ g. ArgIs h.scene.nodes s h.scene.depth h.fr (Filling mark false (only_term (length h.fr) term)) g) (sym g_is) (only_shows h.scene.nodes s h.fr term y value, λ e. there)
+
+  -- arguments, one before others
+  one_told : (h : H) (f : Gift) (ds : List Demand) (rest : Argued) (o : Outcome Given) (p : Outcome (List Given)) → Tells h.scene.nodes s h.fr o ds (λ g. ArgIs h.scene.nodes s h.scene.depth h.fr f g) → Tells h.scene.nodes s h.fr p rest.demands (λ gs. ArgsAre h.scene.nodes s h.scene.depth h.fr rest.given gs) → Tells h.scene.nodes s h.fr (given o (λ g. given p (λ gs. Got (g ∷ gs)))) (ds ++ rest.demands) (λ gs. ArgsAre h.scene.nodes s h.scene.depth h.fr (f ∷ rest.given) gs)
+  one_told h f ds rest o p first second =
+      tells_given h.scene.nodes s h.fr ds rest.demands o _ _ _ first
+      (λ g was is. tells_then h.scene.nodes s h.fr rest.demands p (λ gs. g ∷ gs) _ _ second (λ gs are. (is, are)))
+
+  start_chain : {R : Type 0} {n : _} (scope : Scope) (o : Option Simple) (rest : Row_of-Link n) (u : Simple) → chain_type scope o rest ≡ Some u → ((w : Simple) → o ≡ Some w → chain_type scope (Some w) rest ≡ Some u → R) → R
+  start_chain scope None rest u e next = not_some (sym (none_chain scope rest) ∙ e)
+  start_chain scope (Some w) rest u e next = next w refl e
+
+  more_chain : {R : Type 0} {n : _} (scope : Scope) (b : Bool) (w : Simple) (rest : Row_of-Link n) (u : Simple) → chain_type scope (only_if b (Some w)) rest ≡ Some u → (b ≡ true → chain_type scope (Some w) rest ≡ Some u → R) → R
+  more_chain scope false w rest u e next = not_some (sym (none_chain scope rest) ∙ e)
+  more_chain scope true w rest u e next = next refl e
+
+  more_index : {R : Type 0} {n : _} (scope : Scope) (b : Bool) (o : Option AnyType) (rest : Row_of-Selector n) (U : AnyType) → selected_type scope (only_if b o) rest ≡ Some U → (b ≡ true → selected_type scope o rest ≡ Some U → R) → R
+  more_index scope false o rest U e next = not_some (sym (none_selected scope rest) ∙ e)
+  more_index scope true o rest U e next = next refl e
+
+  mutual
+    unfolding worked valued_of type_of
+
+    pub tells_value : (e : Expr) (h : H) (u : Simple) → type_of h.scope e ≡ Some u → Told h (result h e) (taken h e)
+    tells_value (x.Known w) h u e = (tt, value-Known h.scene.nodes s h.fr w)
+    tells_value (x.Bound k) h u e = bound_told h k u e
+    tells_value (x.Read place) h u e =
+        let (w, is, wide) = widened_found (place_type h.scope place) u e in
+        tells_given h.scene.nodes s h.fr ((placed_of tcalls (at_frame h.fr h.site) h.T place).demands) (demand (is_defined (read_of (length h.fr) h.T (placed_of tcalls (at_frame h.fr h.site) h.T place).spot)) ∷ []) (place_of calls h.scene h.at h.cells place) (λ p. defined h.at (cell_at h.cells p)) _ _
+        (tells_place place h (type.Simple w) is)
+        (λ p was spots. defined_told h.scene.nodes s h.fr h.at (read_of (length h.fr) h.T (placed_of tcalls (at_frame h.fr h.site) h.T place).spot) (cell_at h.cells p) (read_value h (placed_of tcalls (at_frame h.fr h.site) h.T place).spot p spots))
+    tells_value (x.Call k args from) h u e = call_told h k args u e (λ formals fits. tells_arguments args h formals fits)
+    tells_value (NotForm body) h u e =
+        let (is, same) = only_parts (is_of simple.Truth (type_of h.scope body)) (Some simple.Truth) u e in
+        told_not h.scene.nodes s h.fr (result h body) (taken h body) (tells_value body h simple.Truth (of_type simple.Truth (type_of h.scope body) is))
+    tells_value (MinusForm body) h u e =
+        let (is, same) = only_parts (is_of numbers (type_of h.scope body)) (Some numbers) u e in
+        let found : type_of h.scope body ≡ Some numbers = of_type numbers (type_of h.scope body) is in
+        told_minus h.scene.nodes s h.fr h.at (result h body) (taken h body) (tells_value body h numbers found) (typed h body numbers found)
+    tells_value (x.Chain' _ (more_of-Expr first end_of-Expr) _ rest) h u e =
+        start_chain h.scope (type_of h.scope first) rest u e
+        (λ w found more. tells_chain rest h (result h first) (taken h first) w u
+        (tells_got h.scene.nodes s h.fr (taken h first).demands (result h first) _ _ (tells_value first h w found) (λ y was is. (is, typed h first w found y was))) more)
+    tells_value (CompareForm by left right) h u e =
+        let (fits, same) = only_parts (comparable by (type_of h.scope left) (type_of h.scope right)) (Some simple.Truth) u e in
+        let (p, q, first, second) = comparable_types by (type_of h.scope left) (type_of h.scope right) fits in
+        told_compared h.scene.nodes s h.fr by (result h left) (result h right) (taken h left) (taken h right) (tells_value left h p first) (tells_value right h q second)
+    tells_value (ImpliesForm left right) h u e =
+        let (fits, same) = only_parts (is_of simple.Truth (type_of h.scope left) && is_of simple.Truth (type_of h.scope right)) (Some simple.Truth) u e in
+        let (first, second) = and_parts (is_of simple.Truth (type_of h.scope left)) (is_of simple.Truth (type_of h.scope right)) fits in
+        told_implied h.scene.nodes s h.fr (result h left) (result h right) (taken h left) (taken h right)
+        (tells_value left h simple.Truth (of_type simple.Truth (type_of h.scope left) first)) (tells_value right h simple.Truth (of_type simple.Truth (type_of h.scope right) second))
+    tells_value (ChoiceForm test then' else') h u e =
+        let (fits, is) = only_parts (is_of simple.Truth (type_of h.scope test) && comparable compare.Equal (type_of h.scope then') (type_of h.scope else')) (type_of h.scope then') u e in
+        let (first, alike) = and_parts (is_of simple.Truth (type_of h.scope test)) (comparable compare.Equal (type_of h.scope then') (type_of h.scope else')) fits in
+        told_choice h.scene.nodes s h.fr (result h test) (result h then') (result h else') (taken h test) (taken h then') (taken h else')
+        (tells_value test h simple.Truth (of_type simple.Truth (type_of h.scope test) first)) (tells_value then' h u is) (tells_value else' h u (equal_types (type_of h.scope then') (type_of h.scope else') u alike is))
+    tells_value (QuantifiedForm all simple.Node body) h u e =
+        let (fits, same) = only_parts (is_of simple.Truth (type_of (scope_binding h.scope simple.Node) body)) (Some simple.Truth) u e in
+        nodes_told h all body (λ n is. tells_value body (here_node h n is) simple.Truth (of_type simple.Truth (type_of (scope_binding h.scope simple.Node) body) fits))
+    tells_value (QuantifiedForm all simple.Truth body) h u e =
+        let (fits, same) = only_parts (is_of simple.Truth (type_of (scope_binding h.scope simple.Truth) body)) (Some simple.Truth) u e in
+        finite_told h all simple.Truth body refl (λ w is. tells_value body (here_value h simple.Truth w is refl) simple.Truth (of_type simple.Truth (type_of (scope_binding h.scope simple.Truth) body) fits))
+    tells_value (QuantifiedForm all (simple.Range low high) body) h u e =
+        let (fits, same) = only_parts (is_simple_type h.scope.kinds (simple.Range low high) && is_of simple.Truth (type_of (scope_binding h.scope (simple.Range low high)) body)) (Some simple.Truth) u e in
+        let (fine, truths) = and_parts (is_simple_type h.scope.kinds (simple.Range low high)) (is_of simple.Truth (type_of (scope_binding h.scope (simple.Range low high)) body)) fits in
+        finite_told h all (simple.Range low high) body refl (λ w is. tells_value body (here_value h (simple.Range low high) w is fine) simple.Truth (of_type simple.Truth (type_of (scope_binding h.scope (simple.Range low high)) body) truths))
+    tells_value (QuantifiedForm all (simple.Listed kind count) body) h u e =
+        let (fits, same) = only_parts (is_simple_type h.scope.kinds (simple.Listed kind count) && is_of simple.Truth (type_of (scope_binding h.scope (simple.Listed kind count)) body)) (Some simple.Truth) u e in
+        let (fine, truths) = and_parts (is_simple_type h.scope.kinds (simple.Listed kind count)) (is_of simple.Truth (type_of (scope_binding h.scope (simple.Listed kind count)) body)) fits in
+        finite_told h all (simple.Listed kind count) body refl (λ w is. tells_value body (here_value h (simple.Listed kind count) w is fine) simple.Truth (of_type simple.Truth (type_of (scope_binding h.scope (simple.Listed kind count)) body) truths))
+    tells_value (QuantifiedForm all (simple.Scalarset kind count) body) h u e =
+        let (fits, same) = only_parts (is_simple_type h.scope.kinds (simple.Scalarset kind count) && is_of simple.Truth (type_of (scope_binding h.scope (simple.Scalarset kind count)) body)) (Some simple.Truth) u e in
+        let (fine, truths) = and_parts (is_simple_type h.scope.kinds (simple.Scalarset kind count)) (is_of simple.Truth (type_of (scope_binding h.scope (simple.Scalarset kind count)) body)) fits in
+        finite_told h all (simple.Scalarset kind count) body refl (λ w is. tells_value body (here_value h (simple.Scalarset kind count) w is fine) simple.Truth (of_type simple.Truth (type_of (scope_binding h.scope (simple.Scalarset kind count)) body) truths))
+    tells_value (x.IsUndefined place) h u e =
+        let (fits, same) = only_parts (is_some (simple_part (place_type h.scope place))) (Some simple.Truth) u e in
+        let (w, is) = found_simple (place_type h.scope place) fits in
+        tells_then h.scene.nodes s h.fr ((placed_of tcalls (at_frame h.fr h.site) h.T place).demands) (place_of calls h.scene h.at h.cells place) (λ p. v.Truth (same_value (cell_at h.cells p) v.Undefined)) _ _
+        (tells_place place h (type.Simple w) is)
+        (λ p spots. undefined_value h (placed_of tcalls (at_frame h.fr h.site) h.T place).spot p (read_value h (placed_of tcalls (at_frame h.fr h.site) h.T place).spot p spots))
+
+    tells_chain : {n : _} (rest : Row_of-Link n) (h : H) (o : Outcome Value) (before : Valued) (w u : Simple) → IsTyped h.scene.nodes s h.fr w o before → chain_type h.scope (Some w) rest ≡ Some u → Told h (given o (λ y. worked_chain calls h.scene h.at h.cells y rest)) (chain_of tcalls (at_frame h.fr h.site) h.T before rest)
+    tells_chain end_of-Link h o before w u told e = tells_then h.scene.nodes s h.fr before.demands o (λ y. y) _ _ told (λ y both. both.0)
+    tells_chain (more_of-Link by operand rest) h o before w u told e =
+        more_chain h.scope (is_of (operand_type by) (Some w) && is_of (operand_type by) (type_of h.scope operand)) (operand_type by) rest u e
+        (λ both more. (let (first, second) = and_parts (is_of (operand_type by) (Some w)) (is_of (operand_type by) (type_of h.scope operand)) both in
+        let found : type_of h.scope operand ≡ Some (operand_type by) = of_type (operand_type by) (type_of h.scope operand) second ∙ ap Some (operand_widened by) in
+        subst (λ q. Told h q (chain_of tcalls (at_frame h.fr h.site) h.T before (more_of-Link by operand rest))) (given_twice o (λ y. joined h.at by y (result h operand)) (λ y. worked_chain calls h.scene h.at h.cells y rest))
+        (tells_chain rest h (given o (λ y. joined h.at by y (result h operand))) (after before.demands (joined_term (length h.fr) by before.term (taken h operand))) (operand_type by) u
+        (told_chain h.scene.nodes s h.fr h.at by w o (result h operand) before (taken h operand) first told (tells_value operand h (operand_type by) found) (typed h operand (operand_type by) found)) more)))
+
+    pub tells_place : (place : Designator) (h : H) (U : AnyType) → place_type h.scope place ≡ Some U → Tells h.scene.nodes s h.fr (place_of calls h.scene h.at h.cells place) ((placed_of tcalls (at_frame h.fr h.site) h.T place).demands) (λ p. Spots h.scene.nodes s h.scene.depth h.fr (placed_of tcalls (at_frame h.fr h.site) h.T place).spot p)
+    tells_place (d.Of' root _ selectors from) h U e = designator_told h root selectors U e (tells_indices selectors h (root_type h.scope root) U e)
+
+    tells_indices : {n : _} (selectors : Row_of-Selector n) (h : H) (o : Option AnyType) (U : AnyType) → selected_type h.scope o selectors ≡ Some U → Tells h.scene.nodes s h.fr (worked_indices calls h.scene h.at h.cells selectors) ((indices_of tcalls (at_frame h.fr h.site) h.T selectors).demands) (λ xs. Leads h.scene.nodes s h.fr ((indices_of tcalls (at_frame h.fr h.site) h.T selectors).indices) xs)
+    tells_indices end_of-Selector h o U e = (tt, tt)
+    tells_indices (more_of-Selector (select.Field name) rest) h o U e = tells_indices rest h (field_part o name) U e
+    tells_indices (more_of-Selector (select.Index over index) rest) h o U e =
+        more_index h.scope (is_of over (type_of h.scope index)) (item_part o over) rest U e
+        (λ fits more. (let found : type_of h.scope index ≡ Some (widened over) = of_type over (type_of h.scope index) fits in
+        tells_given h.scene.nodes s h.fr (taken h index).demands (demand (index_fits over (taken h index).term) ∷ (indices_of tcalls (at_frame h.fr h.site) h.T rest).demands) (result h index) _ _ _
+        (tells_value index h (widened over) found)
+        (λ y was is. tells_given h.scene.nodes s h.fr (demand (index_fits over (taken h index).term) ∷ []) ((indices_of tcalls (at_frame h.fr h.site) h.T rest).demands) (fitting (is_value h.scene.nodes over y) h.at y) _ _ _
+        (index_told h.scene.nodes s h.fr h.at over (mark_of (at_frame h.fr h.site) index) (taken h index).term y is (typed h index (widened over) found y was))
+        (λ z was' index_is. tells_then h.scene.nodes s h.fr ((indices_of tcalls (at_frame h.fr h.site) h.T rest).demands) (worked_indices calls h.scene h.at h.cells rest) (λ zs. z ∷ zs) _ _ (tells_indices rest h (item_part o over) U more) (λ zs leads. (index_is, leads))))))
+
+    pub tells_arguments : (args : Arguments) (h : H) (formals : List DeclaredFormal) → arguments_fit h.scope formals args ≡ true → Tells h.scene.nodes s h.fr (arguments_of calls h.scene h.at h.cells args) ((argued_of tcalls (at_frame h.fr h.site) h.T args).demands) (λ gs. ArgsAre h.scene.nodes s h.scene.depth h.fr ((argued_of tcalls (at_frame h.fr h.site) h.T args).given) gs)
+    tells_arguments (a.Of' _ args) h formals fits = tells_row args h formals fits
+
+    tells_row : {n : _} (args : Row_of-Argument n) (h : H) (formals : List DeclaredFormal) → row_fits h.scope formals args ≡ true → Tells h.scene.nodes s h.fr (row_arguments calls h.scene h.at h.cells args) ((row_argued tcalls (at_frame h.fr h.site) h.T args).demands) (λ gs. ArgsAre h.scene.nodes s h.scene.depth h.fr ((row_argued tcalls (at_frame h.fr h.site) h.T args).given) gs)
+    tells_row end_of-Argument h formals fits = (tt, tt)
+    tells_row (more_of-Argument first rest) h formals fits =
+        let (one, more) = and_parts (argument_fits h.scope (first_of formals) first) (row_fits h.scope (rest_of formals) rest) (sym (row_more h.scope formals first rest) ∙ fits) in
+        tells_argument first h (first_of formals) one (row_argued tcalls (at_frame h.fr h.site) h.T rest) (row_arguments calls h.scene h.at h.cells rest) (tells_row rest h (rest_of formals) more)
+
+    tells_argument : (first : argument.Argument) (h : H) (formal : Option DeclaredFormal) → argument_fits h.scope formal first ≡ true → (rest : Argued) (p : Outcome (List Given)) → Tells h.scene.nodes s h.fr p rest.demands (λ gs. ArgsAre h.scene.nodes s h.scene.depth h.fr rest.given gs) → Tells h.scene.nodes s h.fr (given (argument_of calls h.scene h.at h.cells first) (λ g. given p (λ gs. Got (g ∷ gs)))) ((one_argued tcalls (at_frame h.fr h.site) h.T first rest).demands) (λ gs. ArgsAre h.scene.nodes s h.scene.depth h.fr ((one_argued tcalls (at_frame h.fr h.site) h.T first rest).given) gs)
+    tells_argument (argument.Copy place) h formal fits rest p told =
+        let (u, found) = value_typed formal (option_map widened (simple_part (place_type h.scope place))) fits in
+        let (w, is, wide) = widened_found (place_type h.scope place) u found in
+        one_told h (Filling (place_mark (at_frame h.fr h.site) place) true (only_term (length h.fr) (read_of (length h.fr) h.T (placed_of tcalls (at_frame h.fr h.site) h.T place).spot))) ((placed_of tcalls (at_frame h.fr h.site) h.T place).demands) rest (argument_of calls h.scene h.at h.cells (argument.Copy place)) p
+        (tells_then h.scene.nodes s h.fr ((placed_of tcalls (at_frame h.fr h.site) h.T place).demands) (place_of calls h.scene h.at h.cells place) (λ q. Filled (only (cell_at h.cells q))) _ _ (tells_place place h (type.Simple w) is)
+        (λ q spots. (only_shows h.scene.nodes s h.fr (read_of (length h.fr) h.T (placed_of tcalls (at_frame h.fr h.site) h.T place).spot) (cell_at h.cells q) (read_value h (placed_of tcalls (at_frame h.fr h.site) h.T place).spot q spots), λ wrong. absurd_false (sym wrong)))) told
+    tells_argument (argument.CopyAll place) h formal fits rest p told =
+        let (U, is) = compound_typed formal (place_type h.scope place) fits in
+        one_told h (Filling None true (shown_at (length h.fr) h.T (placed_of tcalls (at_frame h.fr h.site) h.T place).spot)) ((placed_of tcalls (at_frame h.fr h.site) h.T place).demands) rest (argument_of calls h.scene h.at h.cells (argument.CopyAll place)) p
+        (tells_then h.scene.nodes s h.fr ((placed_of tcalls (at_frame h.fr h.site) h.T place).demands) (place_of calls h.scene h.at h.cells place) (λ q. Filled (contents_at h.cells q)) _ _ (tells_place place h U is)
+        (λ q spots. (place_shows h.scene.nodes s binds h.scene.depth h.fr h.T h.cells (placed_of tcalls (at_frame h.fr h.site) h.T place).spot q h.rep spots, λ wrong. absurd_false (sym wrong)))) told
+    tells_argument (argument.Value body) h formal fits rest p told =
+        let (u, found) = value_typed formal (type_of h.scope body) fits in
+        one_told h (Filling (mark_of (at_frame h.fr h.site) body) false (only_term (length h.fr) (taken h body).term)) (taken h body).demands rest (argument_of calls h.scene h.at h.cells (argument.Value body)) p
+        (tells_got h.scene.nodes s h.fr (taken h body).demands (argument_of calls h.scene h.at h.cells (argument.Value body)) _ _ (tells_then h.scene.nodes s h.fr (taken h body).demands (result h body) (λ y. Filled (only y)) _ (λ g. (y : Value) × (g ≡ Filled (only y)) × (value_of h.scene.nodes s h.fr (taken h body).term ≡ y) × (same_value y v.Undefined ≡ false))
+        (tells_got h.scene.nodes s h.fr (taken h body).demands (result h body) _ (λ y. (value_of h.scene.nodes s h.fr (taken h body).term ≡ y) × (same_value y v.Undefined ≡ false)) (tells_value body h u found) (λ y was is. (is, not_undefined h.scene.nodes u y (typed h body u found y was)))) (λ y both. (y, refl, both.0, both.1)))
+        (λ g was facts. filled_is h (mark_of (at_frame h.fr h.site) body) (taken h body).term g facts)) told
+    tells_argument (argument.Place place) h formal fits rest p told =
+        let (writable, one) = and_parts (may_write h.scope (root_of place)) (given_place formal (place_type h.scope place)) fits in
+        let (U, is) = place_typed formal (place_type h.scope place) one in
+        one_told h (Placing (placed_of tcalls (at_frame h.fr h.site) h.T place).spot) ((placed_of tcalls (at_frame h.fr h.site) h.T place).demands) rest (argument_of calls h.scene h.at h.cells (argument.Place place)) p
+        (tells_then h.scene.nodes s h.fr ((placed_of tcalls (at_frame h.fr h.site) h.T place).demands) (place_of calls h.scene h.at h.cells place) Standing _ _ (tells_place place h U is) (λ q spots. spots)) told

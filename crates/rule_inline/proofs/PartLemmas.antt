@@ -1,0 +1,358 @@
+-- Expressions, designators and arguments: where one faults a demand of it is false for some nodes, else its term has
+-- its value. What routines do is given.
+use Rattle.std.proofs.Common.{◌≡◌, ℕ, zero, suc, ◌+◌, ◌<◌, Bool, true, false, not, ◌&&◌, ◌||◌, cond, List, [], ◌∷◌, ◌++◌, length, map, Option, None, Some, ◌⊎◌, inl, inr, refl, sym, ap, ◌∙◌, subst, append_assoc, append-nil}
+use Rattle.std.specs.Prelude.{pos, slice_get, option_map, option_and_then, is_some, if◌then◌else◌, unwrap_or}
+use Rattle.std.specs.List.{list_all, list_any}
+use Rattle.std.specs.Option.{option_map_or}
+use Rattle.std.proofs.lemmas.Bool.{and_parts}
+use Rattle.std.proofs.lemmas.Option.{slice_get_within}
+use Rattle.term_core.specs.declared.value.Value.{Value}
+use Rattle.term_core.specs.declared.value.Value.TheVariants as v
+use Rattle.term_core.specs.declared.value.ArithOp.TheVariants as operation
+use Rattle.term_core.specs.declared.term.Term as t
+use Rattle.term_core.specs.declared.term.Term.{Term}
+use Rattle.term_core.specs.Nodes.{is_node, nodes}
+use Rattle.term_core.specs.Values.{truth, number, same_value}
+use Rattle.term_core.specs.Meaning.{Cells, value_of, holds_at}
+use Rattle.term_core.specs.Laws.{PlacingBinds}
+use Rattle.murphi_ast.specs.declared.token.Span.{Span}
+use Rattle.murphi_ast.specs.declared.expr.ChainOp.{ChainOp}
+use Rattle.murphi_ast.specs.declared.expr.ChainOp.TheVariants as op
+use Rattle.murphi_ast.specs.declared.expr.CompareOp.{CompareOp}
+use Rattle.murphi_ast.specs.declared.expr.CompareOp.TheVariants as compare
+use Rattle.murphi_typed.specs.declared.types.Simple.{Simple}
+use Rattle.murphi_typed.specs.declared.types.Simple.TheVariants as simple
+use Rattle.murphi_typed.specs.declared.types.AnyType as type
+use Rattle.murphi_typed.specs.declared.types.AnyType.{AnyType}
+use Rattle.murphi_typed.specs.declared.expr.Root.{Root}
+use Rattle.murphi_typed.specs.declared.expr.Expr as x
+use Rattle.murphi_typed.specs.declared.expr.Expr.{Expr, end_of-Expr, more_of-Expr, Row_of-Link, end_of-Link, more_of-Link}
+use Rattle.murphi_typed.specs.declared.expr.Designator as d
+use Rattle.murphi_typed.specs.declared.expr.Designator.{Designator, Row_of-Selector, end_of-Selector, more_of-Selector}
+use Rattle.murphi_typed.specs.declared.expr.Selector as select
+use Rattle.murphi_typed.specs.declared.expr.Arguments as a
+use Rattle.murphi_typed.specs.declared.expr.Arguments.{Arguments, Row_of-Argument, end_of-Argument, more_of-Argument}
+use Rattle.murphi_typed.specs.declared.expr.Argument as argument
+use Rattle.murphi_typed.specs.declared.protocol.Routine.{Routine}
+use Rattle.murphi_typed.specs.declared.protocol.Formal.{Formal as DeclaredFormal}
+use Rattle.murphi_typed.specs.Forms.{NotForm, MinusForm, CompareForm, ImpliesForm, ChoiceForm, QuantifiedForm}
+use Rattle.murphi_typed.specs.Values.{is_value, values}
+use Rattle.murphi_typed.specs.Store.{Place, Contents, Cells as Store, cell_at, contents_at, only}
+use Rattle.murphi_typed.specs.Outcome.{Outcome, Got, Fault, given, or_fault}
+use Rattle.murphi_typed.specs.Expressions.{Given, Filled, Standing, Scene, Left, Calls, as_truth, calculated, joined, compared, defined, over_all, with_bound, root_place, under, row_path, fitting, value_of as worked, chain_value as worked_chain, place_of, indices_of as worked_indices, arguments_of, row_arguments, argument_of}
+use Rattle.murphi_typed.specs.Prefix.{is_over_nodes}
+use Rattle.murphi_typed.specs.WellTyped.{Scope, binding as scope_binding, numbers, widened, is_simple_type, root_type, simple_part, field_part, item_part, is_of, only_if, operand_type, comparable, first_of, rest_of, is_compound, given_value, given_compound, given_place, type_of, chain_type, place_type, selected_type, arguments_fit, row_fits, argument_fits}
+use Rattle.murphi_typed.specs.Keeping.{Declared}
+use Rattle.murphi_typed.specs.Laws.{ValuesFitInBodies}
+use Rattle.rule_inline.specs.Demands.{Demand, demand, under_test, binding}
+use Rattle.rule_inline.specs.Tables.{Leaving, Result, Terms, under_variable, Index, Spot, Shown, shown_at, read_of, only_term}
+use Rattle.rule_inline.specs.Parts.{Given as Gift, Filled as Filling, Standing as Placing, Site, with_value, with_variable, Valued, Placed, Indexed, Argued, Calls as TermCalls, fixed_values, undefined, is_defined, index_fits, whole, result_fits, calculated as calculated_term, joined as joined_term, compared as compared_term, after, negated, compared_values, implied, choice, over_values, terms_of, mark_of, place_mark, root_spot, index_over, valued_of, chain_of, placed_of, indices_of, argued_of, row_argued}
+use Rattle.rule_inline.proofs.ValueLemmas.{absurd_false}
+use Rattle.rule_inline.proofs.TermLemmas.{value-Known, value-Not, value-And, value-Or, value-If, value-Same, value-Less, value-Quantified, is_true, length-one_more, append_nothing}
+use Rattle.rule_inline.proofs.Outcome.{Either, either_map, AllHold, SomeFails, Tells, tells_given, tells_then, tells_map, tells_test, tells_under, all_beside}
+use Rattle.rule_inline.proofs.PlaceLemmas.{NoNodes, Rep, IndexIs, Leads}
+use Rattle.rule_inline.proofs.WriteLemmas.{Shows, only_shows, Spots, place_shows}
+use Rattle.rule_inline.proofs.TypeLemmas.{not_some, some_one, only_parts, simples_one, of_type, not_undefined, defined_is, index_is, EachValue, are_values, values_fixed, index_leads}
+use Rattle.rule_inline.proofs.ArithLemmas.{number_value, tells_calculated}
+use Rattle.rule_inline.proofs.SceneLemmas.{Sound, sound_binding, GiftIs, GiftsAre, bound_there, rep_under, at_frame, inner, Sited, site_under, site_value, root_spots}
+use Rattle.rule_inline.proofs.QuantifierLemmas.{given_twice, tells_before, tells_after, tells_nodes, quantified, tells_values}
+
+-- Types of parts
+
+simple_found : (o : Option AnyType) (s : Simple) → simple_part o ≡ Some s → o ≡ Some (type.Simple s)
+simple_found None s e = not_some e
+simple_found (Some (type.Simple u)) s e = ap (λ w. Some (type.Simple w)) (some_one e)
+simple_found (Some (type.Record' _ fields)) s e = not_some e
+simple_found (Some (type.Array' _ _ item)) s e = not_some e
+
+pub found_simple : (o : Option AnyType) → is_some (simple_part o) ≡ true → (s : Simple) × (o ≡ Some (type.Simple s))
+found_simple o e = go (simple_part o) refl e
+  where
+    go : (p : Option Simple) → simple_part o ≡ p → is_some p ≡ true → (s : Simple) × (o ≡ Some (type.Simple s))
+    go None was e = absurd_false e
+    go (Some s) was e = (s, simple_found o s was)
+
+pub widened_found : (o : Option AnyType) (s : Simple) → option_map widened (simple_part o) ≡ Some s → (u : Simple) × (o ≡ Some (type.Simple u)) × (widened u ≡ s)
+widened_found o s e = go (simple_part o) refl e
+  where
+    go : (p : Option Simple) → simple_part o ≡ p → option_map widened p ≡ Some s → (u : Simple) × (o ≡ Some (type.Simple u)) × (widened u ≡ s)
+    go None was e = not_some e
+    go (Some u) was e = (u, simple_found o u was, some_one e)
+
+pub bound_found : (o : Option Simple) (s : Simple) → option_map widened o ≡ Some s → (u : Simple) × (o ≡ Some u)
+bound_found None s e = not_some e
+bound_found (Some u) s e = (u, refl)
+
+pub none_selected : {n : _} (scope : Scope) (rest : Row_of-Selector n) → selected_type scope None rest ≡ None
+unfolding type_of
+none_selected scope end_of-Selector = refl
+none_selected scope (more_of-Selector (select.Field name) rest) = none_selected scope rest
+none_selected scope (more_of-Selector (select.Index over index) rest) = ap (λ o. selected_type scope o rest) (go (is_of over (type_of scope index))) ∙ none_selected scope rest
+  where
+    go : (b : Bool) → only_if b (item_part None over) ≡ None
+    go true = refl
+    go false = refl
+
+pub none_chain : {n : _} (scope : Scope) (rest : Row_of-Link n) → chain_type scope None rest ≡ None
+unfolding type_of
+none_chain scope end_of-Link = refl
+none_chain scope (more_of-Link by operand rest) = none_chain scope rest
+
+-- the variable of a designator with a type has one
+pub rooted : {n : _} (scope : Scope) (o : Option AnyType) (rest : Row_of-Selector n) (U : AnyType) → selected_type scope o rest ≡ Some U → (W : AnyType) × (o ≡ Some W)
+rooted scope None rest U e = not_some (sym (none_selected scope rest) ∙ e)
+rooted scope (Some W) rest U e = (W, refl)
+
+-- what the operands of a comparison or a condition have in common
+pub equal_types : (left right : Option Simple) (s : Simple) → comparable compare.Equal left right ≡ true → left ≡ Some s → right ≡ Some s
+equal_types None right s e is = not_some is
+equal_types (Some u) None s e is = absurd_false e
+equal_types (Some u) (Some w) s e is = ap Some (sym (simples_one u w e)) ∙ is
+
+numbers_of : (left right : Option Simple) → (is_of numbers left && is_of numbers right) ≡ true → (s : Simple) × (u : Simple) × (left ≡ Some s) × (right ≡ Some u)
+numbers_of left right e = let (l, r) = and_parts (is_of numbers left) (is_of numbers right) e in (numbers, numbers, of_type numbers left l, of_type numbers right r)
+
+same_types : (left right : Option Simple) → comparable compare.Equal left right ≡ true → (s : Simple) × (u : Simple) × (left ≡ Some s) × (right ≡ Some u)
+same_types None right e = absurd_false e
+same_types (Some s) right e = (s, s, refl, equal_types (Some s) right s e refl)
+
+other_types : (left right : Option Simple) → comparable compare.NotEqual left right ≡ true → (s : Simple) × (u : Simple) × (left ≡ Some s) × (right ≡ Some u)
+other_types None right e = absurd_false e
+other_types (Some s) right e = (s, s, refl, equal_types (Some s) right s e refl)
+
+pub comparable_types : (by : CompareOp) (left right : Option Simple) → comparable by left right ≡ true → (s : Simple) × (u : Simple) × (left ≡ Some s) × (right ≡ Some u)
+comparable_types compare.Equal left right e = same_types left right e
+comparable_types compare.NotEqual left right e = other_types left right e
+comparable_types compare.Less left right e = numbers_of left right e
+comparable_types compare.LessEqual left right e = numbers_of left right e
+comparable_types compare.Greater left right e = numbers_of left right e
+comparable_types compare.GreaterEqual left right e = numbers_of left right e
+
+-- a body at a place of its run, with the terms that represent it
+pub record Here (s : Cells) (types : Declared) (calls : Calls) (routines : List Routine) : Type 0 where
+  pub scope : Scope
+  pub scene : Scene
+  pub fr : List ℕ
+  pub site : Site
+  pub T : Terms
+  pub cells : Store
+  pub at : Span
+  pub sound : Sound types calls routines scope scene cells
+  pub sited : Sited s fr site scene
+  pub rep : Rep scene.nodes s scene.depth fr T cells
+
+-- an argument as it is given
+abbrev pub ArgIs : ℕ → Cells → ℕ → List ℕ → Gift → Given → Type 0
+ArgIs N s depth fr (Filling mark plain shown) (Filled contents) = Shows N s fr shown contents × (plain ≡ false → same_value (contents [] []) v.Undefined ≡ false)
+ArgIs N s depth fr (Filling mark plain shown) (Standing place) = ⊥
+ArgIs N s depth fr (Placing spot) (Filled contents) = ⊥
+ArgIs N s depth fr (Placing spot) (Standing place) = Spots N s depth fr spot place
+
+abbrev pub ArgsAre : ℕ → Cells → ℕ → List ℕ → List Gift → List Given → Type 0
+ArgsAre N s depth fr [] [] = Unit {0}
+ArgsAre N s depth fr [] (g ∷ gs) = ⊥
+ArgsAre N s depth fr (f ∷ fs) [] = ⊥
+ArgsAre N s depth fr (f ∷ fs) (g ∷ gs) = ArgIs N s depth fr f g × ArgsAre N s depth fr fs gs
+
+-- what is asked of a call of a function with arguments that were worked out
+abbrev pub FunctionTells : (s : Cells) (types : Declared) (calls : Calls) (routines : List Routine) (tcalls : TermCalls) → Here s types calls routines → Type 0
+FunctionTells s types calls routines tcalls h =
+    (k : ℕ) (r : Routine) (u : Simple) (args : Arguments) (gs : List Given) (gifts : List Gift)
+    → slice_get routines k ≡ Some r → r.result ≡ Some u → arguments_fit h.scope r.formals args ≡ true
+    → arguments_of calls h.scene h.at h.cells args ≡ Got gs
+    → ArgsAre h.scene.nodes s h.scene.depth h.fr gifts gs
+    → Tells h.scene.nodes s h.fr (calls k h.scene h.at gs h.cells) ((tcalls k (at_frame h.fr h.site) h.T gifts).demands ++ demand ((tcalls k (at_frame h.fr h.site) h.T gifts).change.now Leaving) ∷ [])
+    (λ left. (w : Value) × (left.result ≡ Some w) × (value_of h.scene.nodes s h.fr ((tcalls k (at_frame h.fr h.site) h.T gifts).change.now Result) ≡ w))
+
+pub operand_widened : (by : ChainOp) → widened (operand_type by) ≡ operand_type by
+operand_widened op.Or = refl
+operand_widened op.And = refl
+operand_widened op.Add = refl
+operand_widened op.Subtract = refl
+operand_widened op.Times = refl
+operand_widened op.Divide = refl
+operand_widened op.Modulo = refl
+
+pub row_more : {n : _} (scope : Scope) (formals : List DeclaredFormal) (first : argument.Argument) (rest : Row_of-Argument n) → row_fits scope formals (more_of-Argument first rest) ≡ (argument_fits scope (first_of formals) first && row_fits scope (rest_of formals) rest)
+unfolding type_of
+row_more scope [] first rest = refl
+row_more scope (f ∷ fs) first rest = refl
+
+pub value_typed : (formal : Option DeclaredFormal) (o : Option Simple) → given_value formal o ≡ true → (u : Simple) × (o ≡ Some u)
+value_typed formal (Some u) e = (u, refl)
+value_typed None None e = absurd_false e
+value_typed (Some f) None e = absurd_false (sym (go (not f.by_place) (simple_part (Some f.of))) ∙ e)
+  where
+    go : (b : Bool) (p : Option Simple) → (b && option_map_or (λ u. is_of u None) p false) ≡ false
+    go true None = refl
+    go true (Some u) = refl
+    go false p = refl
+
+pub compound_typed : (formal : Option DeclaredFormal) (o : Option AnyType) → given_compound formal o ≡ true → (U : AnyType) × (o ≡ Some U)
+compound_typed formal (Some U) e = (U, refl)
+compound_typed None None e = absurd_false e
+compound_typed (Some f) None e = absurd_false (sym (go (not f.by_place) (is_compound f.of)) ∙ e)
+  where
+    go : (b c : Bool) → (b && (c && false)) ≡ false
+    go true true = refl
+    go true false = refl
+    go false c = refl
+
+pub place_typed : (formal : Option DeclaredFormal) (o : Option AnyType) → given_place formal o ≡ true → (U : AnyType) × (o ≡ Some U)
+place_typed formal (Some U) e = (U, refl)
+place_typed None None e = absurd_false e
+place_typed (Some f) None e = absurd_false (sym (go f.by_place) ∙ e)
+  where
+    go : (b : Bool) → (b && false) ≡ false
+    go true = refl
+    go false = refl
+
+pub each_map : {P Q : Value → Type 0} (xs : List Value) → ((y : Value) → P y → Q y) → EachValue P xs → EachValue Q xs
+each_map [] f e = tt
+each_map (y ∷ xs) f (p, e) = (f y p, each_map xs f e)
+
+pub leads_joined : (N : ℕ) (s : Cells) (fr : List ℕ) (is js : List Index) (xs ys : List Value) → Leads N s fr is xs → Leads N s fr js ys → Leads N s fr (is ++ js) (xs ++ ys)
+leads_joined N s fr [] js [] ys p q = q
+leads_joined N s fr [] js (y ∷ xs) ys p q = absurd p
+leads_joined N s fr (i ∷ is) js [] ys p q = absurd p
+leads_joined N s fr (i ∷ is) js (y ∷ xs) ys (index, p) q = (index, leads_joined N s fr is js xs ys p q)
+
+-- what is known of a result beside what is told of it
+pub tells_got : (N : ℕ) (s : Cells) {A : Type 0} (fr : List ℕ) (qs : List Demand) (o : Outcome A) (P Q : A → Type 0) → Tells N s fr o qs P → ((y : A) → o ≡ Got y → P y → Q y) → Tells N s fr o qs Q
+tells_got N s fr qs (Fault at) P Q bad next = bad
+tells_got N s fr qs (Got y) P Q (good, p) next = (good, next y refl p)
+
+-- One operator
+
+module _ (N : ℕ) (s : Cells) (fr : List ℕ) where
+  abbrev pub IsTold : Outcome Value → Valued → Type 0
+  IsTold o e = Tells N s fr o e.demands (λ y. value_of N s fr e.term ≡ y)
+
+  abbrev pub IsTyped : Simple → Outcome Value → Valued → Type 0
+  IsTyped u o e = Tells N s fr o e.demands (λ y. (value_of N s fr e.term ≡ y) × (is_value N u y ≡ true))
+
+  compared_value : (by : CompareOp) (left right : Term) (p q : Value) → value_of N s fr left ≡ p → value_of N s fr right ≡ q → value_of N s fr (compared_term by left right) ≡ v.Truth (compared by p q)
+  compared_value by left right p q e f = go by ∙ ap (λ y. v.Truth (compared by y (value_of N s fr right))) e ∙ ap (λ y. v.Truth (compared by p y)) f
+    where
+      go : (by : CompareOp) → value_of N s fr (compared_term by left right) ≡ v.Truth (compared by (value_of N s fr left) (value_of N s fr right))
+      go compare.Equal = value-Same N s fr left right
+      go compare.NotEqual = value-Not N s fr (t.Same left right) ∙ ap (λ y. v.Truth (not (truth y))) (value-Same N s fr left right)
+      go compare.Less = value-Less N s fr left right
+      go compare.LessEqual = value-Not N s fr (t.Less right left) ∙ ap (λ y. v.Truth (not (truth y))) (value-Less N s fr right left)
+      go compare.Greater = value-Less N s fr right left
+      go compare.GreaterEqual = value-Not N s fr (t.Less left right) ∙ ap (λ y. v.Truth (not (truth y))) (value-Less N s fr left right)
+
+  pub told_not : (o : Outcome Value) (e : Valued) → IsTold o e → IsTold (given o (λ y. Got (v.Truth (not (truth y))))) (negated e)
+  told_not o e told = tells_then N s fr e.demands o (λ y. v.Truth (not (truth y))) _ _ told (λ y is. value-Not N s fr e.term ∙ ap (λ z. v.Truth (not (truth z))) is)
+
+  pub told_minus : (at : Span) (o : Outcome Value) (e : Valued) → IsTold o e → ((y : Value) → o ≡ Got y → is_value N numbers y ≡ true) → IsTold (given o (calculated at operation.Subtract (v.Number (pos 0)))) (calculated_term operation.Subtract (whole 0) e)
+  told_minus at o e told fine =
+      tells_given N s fr e.demands (map demand (result_fits operation.Subtract (whole 0) e.term)) o (calculated at operation.Subtract (v.Number (pos 0))) _ _ told
+      (λ y was is. tells_map N s fr (map demand (result_fits operation.Subtract (whole 0) e.term)) (calculated at operation.Subtract (v.Number (pos 0)) y) _ _
+      (tells_calculated N s fr at operation.Subtract (whole 0) e.term (v.Number (pos 0)) y (value-Known N s fr (v.Number (pos 0))) is (number_value N (pos 0) refl) (fine y was)) (λ z both. both.0))
+
+  pub told_compared : (by : CompareOp) (o p : Outcome Value) (e f : Valued) → IsTold o e → IsTold p f → IsTold (given o (λ y. given p (λ z. Got (v.Truth (compared by y z))))) (compared_values by e f)
+  told_compared by o p e f first second =
+      tells_given N s fr e.demands f.demands o _ _ _ first
+      (λ y was is. tells_then N s fr f.demands p (λ z. v.Truth (compared by y z)) _ _ second (λ z is'. compared_value by e.term f.term y z is is'))
+
+  or_two : (left right : Term) → value_of N s fr (t.Or (left ∷ right ∷ [])) ≡ v.Truth (is_true N s fr left || (is_true N s fr right || false))
+  or_two left right = value-Or N s fr (left ∷ right ∷ [])
+
+  and_two : (left right : Term) → value_of N s fr (t.And (left ∷ right ∷ [])) ≡ v.Truth (is_true N s fr left && (is_true N s fr right && true))
+  and_two left right = value-And N s fr (left ∷ right ∷ [])
+
+  or_nothing : (b : Bool) → (b || false) ≡ b
+  or_nothing true = refl
+  or_nothing false = refl
+
+  and_nothing : (b : Bool) → (b && true) ≡ b
+  and_nothing true = refl
+  and_nothing false = refl
+
+  not_is : (left : Term) (b : Bool) → is_true N s fr left ≡ b → is_true N s fr (t.Not left) ≡ not b
+  not_is left b e = ap truth (value-Not N s fr left) ∙ ap not e
+
+  -- the second part of `|` where the first is false, and so on
+  or_told : (left : Term) (y : Value) (p : Outcome Value) (f : Valued) → value_of N s fr left ≡ y → IsTold p f → Tells N s fr (if truth y then Got (v.Truth true) else given p (λ z. Got (as_truth z))) (under_test (length fr) (t.Not left) f.demands) (λ z. (value_of N s fr (t.Or (left ∷ f.term ∷ [])) ≡ z) × (is_value N simple.Truth z ≡ true))
+  or_told left y p f is second = go (truth y) refl
+    where
+      go : (b : Bool) → truth y ≡ b → Tells N s fr (if b then Got (v.Truth true) else given p (λ z. Got (as_truth z))) (under_test (length fr) (t.Not left) f.demands) (λ z. (value_of N s fr (t.Or (left ∷ f.term ∷ [])) ≡ z) × (is_value N simple.Truth z ≡ true))
+      go true was = (all_beside N s fr (t.Not left) f.demands (not_is left true (ap truth is ∙ was)), (or_two left f.term ∙ ap (λ b. v.Truth (b || (is_true N s fr f.term || false))) (ap truth is ∙ was), refl))
+      go false was =
+          tells_under N s fr (t.Not left) f.demands (given p (λ z. Got (as_truth z))) _ (not_is left false (ap truth is ∙ was))
+          (tells_then N s fr f.demands p as_truth _ _ second (λ z is'. (or_two left f.term ∙ ap (λ b. v.Truth (b || (is_true N s fr f.term || false))) (ap truth is ∙ was) ∙ ap v.Truth (or_nothing (is_true N s fr f.term)) ∙ ap (λ u. v.Truth (truth u)) is', refl)))
+
+  and_told : (left : Term) (y : Value) (p : Outcome Value) (f : Valued) → value_of N s fr left ≡ y → IsTold p f → Tells N s fr (if truth y then given p (λ z. Got (as_truth z)) else Got (v.Truth false)) (under_test (length fr) left f.demands) (λ z. (value_of N s fr (t.And (left ∷ f.term ∷ [])) ≡ z) × (is_value N simple.Truth z ≡ true))
+  and_told left y p f is second = go (truth y) refl
+    where
+      go : (b : Bool) → truth y ≡ b → Tells N s fr (if b then given p (λ z. Got (as_truth z)) else Got (v.Truth false)) (under_test (length fr) left f.demands) (λ z. (value_of N s fr (t.And (left ∷ f.term ∷ [])) ≡ z) × (is_value N simple.Truth z ≡ true))
+      go false was = (all_beside N s fr left f.demands (ap truth is ∙ was), (and_two left f.term ∙ ap (λ b. v.Truth (b && (is_true N s fr f.term && true))) (ap truth is ∙ was), refl))
+      go true was =
+          tells_under N s fr left f.demands (given p (λ z. Got (as_truth z))) _ (ap truth is ∙ was)
+          (tells_then N s fr f.demands p as_truth _ _ second (λ z is'. (and_two left f.term ∙ ap (λ b. v.Truth (b && (is_true N s fr f.term && true))) (ap truth is ∙ was) ∙ ap v.Truth (and_nothing (is_true N s fr f.term)) ∙ ap (λ u. v.Truth (truth u)) is', refl)))
+
+  pub told_implied : (o p : Outcome Value) (e f : Valued) → IsTold o e → IsTold p f → IsTold (given o (λ y. if truth y then given p (λ z. Got (as_truth z)) else Got (v.Truth true))) (implied (length fr) e f)
+  told_implied o p e f first second = tells_given N s fr e.demands (under_test (length fr) e.term f.demands) o _ _ _ first (λ y was is. go y is (truth y) refl)
+    where
+      go : (y : Value) → value_of N s fr e.term ≡ y → (b : Bool) → truth y ≡ b → Tells N s fr (if b then given p (λ z. Got (as_truth z)) else Got (v.Truth true)) (under_test (length fr) e.term f.demands) (λ z. value_of N s fr (t.Or (t.Not e.term ∷ f.term ∷ [])) ≡ z)
+      go y is false was = (all_beside N s fr e.term f.demands (ap truth is ∙ was), or_two (t.Not e.term) f.term ∙ ap (λ b. v.Truth (b || (is_true N s fr f.term || false))) (not_is e.term false (ap truth is ∙ was)))
+      go y is true was =
+          tells_under N s fr e.term f.demands (given p (λ z. Got (as_truth z))) _ (ap truth is ∙ was)
+          (tells_then N s fr f.demands p as_truth _ _ second (λ z is'. or_two (t.Not e.term) f.term ∙ ap (λ b. v.Truth (b || (is_true N s fr f.term || false))) (not_is e.term true (ap truth is ∙ was)) ∙ ap v.Truth (or_nothing (is_true N s fr f.term)) ∙ ap (λ u. v.Truth (truth u)) is'))
+
+  pub told_choice : (o p q : Outcome Value) (e f g : Valued) → IsTold o e → IsTold p f → IsTold q g → IsTold (given o (λ y. if truth y then p else q)) (choice (length fr) e f g)
+  told_choice o p q e f g first second third = tells_given N s fr e.demands (under_test (length fr) e.term f.demands ++ under_test (length fr) (t.Not e.term) g.demands) o _ _ _ first (λ y was is. go y is (truth y) refl)
+    where
+      chosen_is : (b : Bool) → is_true N s fr e.term ≡ b → value_of N s fr (t.If e.term f.term g.term) ≡ cond b (value_of N s fr f.term) (value_of N s fr g.term)
+      chosen_is b was = value-If N s fr e.term f.term g.term ∙ ap (λ c. cond c (value_of N s fr f.term) (value_of N s fr g.term)) was
+
+      go : (y : Value) → value_of N s fr e.term ≡ y → (b : Bool) → truth y ≡ b → Tells N s fr (if b then p else q) (under_test (length fr) e.term f.demands ++ under_test (length fr) (t.Not e.term) g.demands) (λ z. value_of N s fr (t.If e.term f.term g.term) ≡ z)
+      go y is true was =
+          tells_after N s fr (under_test (length fr) e.term f.demands) (under_test (length fr) (t.Not e.term) g.demands) p _ (all_beside N s fr (t.Not e.term) g.demands (not_is e.term true (ap truth is ∙ was)))
+          (tells_under N s fr e.term f.demands p _ (ap truth is ∙ was) (tells_map N s fr f.demands p _ _ second (λ z is'. chosen_is true (ap truth is ∙ was) ∙ is')))
+      go y is false was =
+          tells_before N s fr (under_test (length fr) e.term f.demands) (under_test (length fr) (t.Not e.term) g.demands) q _ (all_beside N s fr e.term f.demands (ap truth is ∙ was))
+          (tells_under N s fr (t.Not e.term) g.demands q _ (not_is e.term false (ap truth is ∙ was)) (tells_map N s fr g.demands q _ _ third (λ z is'. chosen_is false (ap truth is ∙ was) ∙ is')))
+
+  arith_told : (at : Span) (by : _) (left : Term) (y : Value) (p : Outcome Value) (f : Valued) → value_of N s fr left ≡ y → is_value N numbers y ≡ true → IsTold p f → ((z : Value) → p ≡ Got z → is_value N numbers z ≡ true) → Tells N s fr (given p (calculated at by y)) (f.demands ++ map demand (result_fits by left f.term)) (λ z. (value_of N s fr (t.Arith by left f.term) ≡ z) × (is_value N numbers z ≡ true))
+  arith_told at by left y p f is fine second typed =
+      tells_given N s fr f.demands (map demand (result_fits by left f.term)) p (calculated at by y) _ _ second
+      (λ z was is'. tells_calculated N s fr at by left f.term y z is is' fine (typed z was))
+
+  -- one more operand of a chain
+  told_joined : (at : Span) (by : ChainOp) (left : Term) (y : Value) (p : Outcome Value) (f : Valued) → value_of N s fr left ≡ y → is_value N (operand_type by) y ≡ true → IsTold p f → ((z : Value) → p ≡ Got z → is_value N (operand_type by) z ≡ true) → IsTyped (operand_type by) (joined at by y p) (joined_term (length fr) by left f)
+  told_joined at op.Or left y p f is fine second typed = or_told left y p f is second
+  told_joined at op.And left y p f is fine second typed = and_told left y p f is second
+  told_joined at op.Add left y p f is fine second typed = arith_told at operation.Add left y p f is fine second typed
+  told_joined at op.Subtract left y p f is fine second typed = arith_told at operation.Subtract left y p f is fine second typed
+  told_joined at op.Times left y p f is fine second typed = arith_told at operation.Times left y p f is fine second typed
+  told_joined at op.Divide left y p f is fine second typed = arith_told at operation.Divide left y p f is fine second typed
+  told_joined at op.Modulo left y p f is fine second typed = arith_told at operation.Modulo left y p f is fine second typed
+
+  pub told_chain : (at : Span) (by : ChainOp) (u : Simple) (o p : Outcome Value) (e f : Valued) → is_of (operand_type by) (Some u) ≡ true → IsTyped u o e → IsTold p f → ((z : Value) → p ≡ Got z → is_value N (operand_type by) z ≡ true) → IsTyped (operand_type by) (given o (λ y. joined at by y p)) (after e.demands (joined_term (length fr) by e.term f))
+  told_chain at by u o p e f fits first second typed =
+      tells_given N s fr e.demands ((joined_term (length fr) by e.term f).demands) o (λ y. joined at by y p) _ _ first
+      (λ y was both. told_joined at by e.term y p f both.0 (ap (λ w. is_value N w y) (sym same) ∙ both.1) second typed)
+    where
+      same : u ≡ operand_type by
+      same = some_one (of_type (operand_type by) (Some u) fits) ∙ operand_widened by
+
+  -- a cell that is read
+  pub defined_told : (at : Span) (e : Term) (y : Value) → value_of N s fr e ≡ y → Tells N s fr (defined at y) (demand (is_defined e) ∷ []) (λ z. value_of N s fr e ≡ z)
+  defined_told at e y is = tells_test N s fr (is_defined e) (defined at y) _ (go y is)
+    where
+      go : (y : Value) → value_of N s fr e ≡ y → Either (is_true N s fr (is_defined e) ≡ true) (is_true N s fr (is_defined e) ≡ false) (defined at y) (λ z. value_of N s fr e ≡ z)
+      go v.Undefined is = defined_is N s fr e v.Undefined is
+      go (v.Truth b) is = (defined_is N s fr e (v.Truth b) is, is)
+      go (v.Number z) is = (defined_is N s fr e (v.Number z) is, is)
+      go (v.Member k i) is = (defined_is N s fr e (v.Member k i) is, is)
+      go (v.Node n) is = (defined_is N s fr e (v.Node n) is, is)
+
+  -- an index that is in its type
+  pub index_told : (at : Span) (over : Simple) (mark : Option ℕ) (e : Term) (y : Value) → value_of N s fr e ≡ y → is_value N (widened over) y ≡ true → Tells N s fr (fitting (is_value N over y) at y) (demand (index_fits over e) ∷ []) (λ z. IndexIs N s fr (index_over over mark e) z)
+  index_told at over mark e y is fine = tells_test N s fr (index_fits over e) (fitting (is_value N over y) at y) _ (go (is_value N over y) refl)
+    where
+      go : (b : Bool) → is_value N over y ≡ b → Either (is_true N s fr (index_fits over e) ≡ true) (is_true N s fr (index_fits over e) ≡ false) (fitting b at y) (λ z. IndexIs N s fr (index_over over mark e) z)
+      go true was = (index_is N s fr over e y is fine ∙ was, index_leads N s fr over mark e y is was)
+      go false was = index_is N s fr over e y is fine ∙ was
