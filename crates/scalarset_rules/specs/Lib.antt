@@ -1,0 +1,5 @@
+-- The symmetry rules and what they are for, in reading order.
+pub mod Accesses
+pub mod Rules
+pub mod Turns
+pub mod Worked
