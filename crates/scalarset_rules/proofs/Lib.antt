@@ -1,2 +1,10 @@
 -- Lemmas.
 mod Samples
+pub mod Sameness
+pub mod Keeping
+pub mod Reading
+pub mod Running
+pub mod Calling
+pub mod Judging
+pub mod Staying
+pub mod Turning

@@ -1,5 +1,6 @@
 //! What holds of the symmetry rules: laws, each on a function that does nothing.
 
+ghost use Rattle.scalarset_rules.specs.Turns.{LoopFaults, LoopEnds};
 ghost use Rattle.scalarset_rules.specs.Worked.{FormsAreAsWorked, LoopsAreAsWorked, CallsAreAsWorked};
 
 /// The worked cases of the rules come out as they were worked out by hand.
@@ -7,4 +8,13 @@ pub fn worked_cases()
     ensures forms { FormsAreAsWorked }
     ensures loops { LoopsAreAsWorked }
     ensures calls { CallsAreAsWorked }
+{}
+
+/// The turns of a `for` over nodes that breaks no rule do not meet, for every number of nodes, all cells
+/// and every loop, calls opened. If one turn from the cells before the loop faults, the loop faults. If
+/// none does, the loop ends; a cell of a family that it writes, with node n at the family's place, is what
+/// the turn of node n makes of the cells before the loop, and all else is as it was.
+pub fn turns_do_not_meet()
+    ensures faults { LoopFaults }
+    ensures ends { LoopEnds }
 {}
