@@ -24,7 +24,7 @@ abbrev pub In : {A : Type 0} → A → List A → Type 0
 In a [] = ⊥
 In a (b ∷ bs) = (a ≡ b) ⊎ In a bs
 
-all_in : {A : Type 0} (test : A → Bool) (xs : List A) (a : A) → list_all test xs ≡ true → In a xs → test a ≡ true
+pub all_in : {A : Type 0} (test : A → Bool) (xs : List A) (a : A) → list_all test xs ≡ true → In a xs → test a ≡ true
 all_in test [] a h i = absurd i
 all_in test (b ∷ bs) a h (inl e) = ap test e ∙ (and_parts (test b) (list_all test bs) h).0
 all_in test (b ∷ bs) a h (inr i) = all_in test bs a (and_parts (test b) (list_all test bs) h).1 i
@@ -33,12 +33,12 @@ none_left : {A : Type 0} (xs ys : List A) → (xs ++ ys) ≡ [] → (xs ≡ []) 
 none_left [] ys e = (refl, e)
 none_left (x ∷ xs) ys e = cc
 
-none_in : {A B : Type 0} (f : A → List B) (xs : List A) (a : A) → flat_map f xs ≡ [] → In a xs → f a ≡ []
+pub none_in : {A B : Type 0} (f : A → List B) (xs : List A) (a : A) → flat_map f xs ≡ [] → In a xs → f a ≡ []
 none_in f [] a e i = absurd i
 none_in f (b ∷ bs) a e (inl same) = ap f same ∙ (none_left (f b) (flat_map f bs) e).0
 none_in f (b ∷ bs) a e (inr i) = none_in f bs a (none_left (f b) (flat_map f bs) e).1 i
 
-kept_in : {A : Type 0} (test : A → Bool) (xs : List A) (a : A) → In a xs → test a ≡ true → In a (filter test xs)
+pub kept_in : {A : Type 0} (test : A → Bool) (xs : List A) (a : A) → In a xs → test a ≡ true → In a (filter test xs)
 kept_in test [] a i e = absurd i
 kept_in test (b ∷ bs) a i e = go (λ j. kept_in test bs a j e) (test b) refl i
   where
@@ -59,7 +59,7 @@ no_part [] = refl
 no_part (Field name ∷ ps) = no_part ps
 no_part (Index m ∷ ps) = no_part ps
 
-nothing_down : {A : Type 0} (ps : List Part) → is_some (part_type None ps) ≡ true → A
+pub nothing_down : {A : Type 0} (ps : List Part) → is_some (part_type None ps) ≡ true → A
 nothing_down ps e = false-true (sym (ap is_some (no_part ps)) ∙ e)
 
 -- a record is no array
@@ -106,13 +106,13 @@ comparable found (Field a ∷ ps) (Field b ∷ qs) (c ∷ path) e f g h =
 
 -- One loop
 
-blame_one : {A : Type 0} (rule : ℕ) (at : Span) (by from : Option Span) → blame rule at by from ≡ [] → A
+pub blame_one : {A : Type 0} (rule : ℕ) (at : Span) (by from : Option Span) → blame rule at by from ≡ [] → A
 blame_one rule at None None e = cc
 blame_one rule at (Some call) None e = cc
 blame_one rule at None (Some call) e = cc
 blame_one rule at (Some call) (Some other) e = cc
 
-no_blame : (b : Bool) (rule : ℕ) (at : Span) (by from : Option Span) → (if b then blame rule at by from else []) ≡ [] → b ≡ false
+pub no_blame : (b : Bool) (rule : ℕ) (at : Span) (by from : Option Span) → (if b then blame rule at by from else []) ≡ [] → b ≡ false
 no_blame true rule at by from e = blame_one rule at by from e
 no_blame false rule at by from e = refl
 

@@ -8,3 +8,7 @@ pub mod Calling
 pub mod Judging
 pub mod Staying
 pub mod Turning
+pub mod Fine
+pub mod Walks
+pub mod Downs
+pub mod Texts

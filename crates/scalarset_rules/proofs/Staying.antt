@@ -25,11 +25,11 @@ abbrev pub Free : List Standing → Type 0
 Free [] = Unit {0}
 Free (p ∷ ps) = (bad_return p.inside p.statement ≡ []) × Free ps
 
-free_front : (ps qs : List Standing) → Free (ps ++ qs) → Free ps
+pub free_front : (ps qs : List Standing) → Free (ps ++ qs) → Free ps
 free_front [] qs free = tt
 free_front (p ∷ ps) qs (one, more) = (one, free_front ps qs more)
 
-free_back : (ps qs : List Standing) → Free (ps ++ qs) → Free qs
+pub free_back : (ps qs : List Standing) → Free (ps ++ qs) → Free qs
 free_back [] qs free = free
 free_back (p ∷ ps) qs (one, more) = free_back ps qs more
 

@@ -2,4 +2,5 @@
 pub mod Accesses
 pub mod Rules
 pub mod Turns
+pub mod Apart
 pub mod Worked

@@ -1,5 +1,6 @@
 //! What holds of the symmetry rules: laws, each on a function that does nothing.
 
+ghost use Rattle.scalarset_rules.specs.Apart.{UnbrokenTextsKeepApart};
 ghost use Rattle.scalarset_rules.specs.Turns.{LoopFaults, LoopEnds};
 ghost use Rattle.scalarset_rules.specs.Worked.{FormsAreAsWorked, LoopsAreAsWorked, CallsAreAsWorked};
 
@@ -17,4 +18,11 @@ pub fn worked_cases()
 pub fn turns_do_not_meet()
     ensures faults { LoopFaults }
     ensures ends { LoopEnds }
+{}
+
+/// In a well-typed text that breaks no rule each loop over nodes meets what `turns_do_not_meet` asks
+/// for, wherever it stands: in a rule or a start state, or in a procedure that it calls, with what that
+/// call gives to the formals.
+pub fn unbroken_texts_keep_turns_apart()
+    ensures { UnbrokenTextsKeepApart }
 {}
