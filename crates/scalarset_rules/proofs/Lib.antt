@@ -1,0 +1,14 @@
+-- Lemmas.
+mod Samples
+pub mod Sameness
+pub mod Keeping
+pub mod Reading
+pub mod Running
+pub mod Calling
+pub mod Judging
+pub mod Staying
+pub mod Turning
+pub mod Fine
+pub mod Walks
+pub mod Downs
+pub mod Texts

@@ -1,0 +1,6 @@
+-- The symmetry rules and what they are for, in reading order.
+pub mod Accesses
+pub mod Rules
+pub mod Turns
+pub mod Apart
+pub mod Worked

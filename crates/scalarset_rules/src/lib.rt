@@ -1,0 +1,5 @@
+//! The symmetry rules: what makes one text speak for every number of nodes. Where no rule is broken,
+//! the turns of a `for` over nodes do not meet. The definitions stand in `specs/`.
+#![tactic(auto)]
+
+pub mod laws;
