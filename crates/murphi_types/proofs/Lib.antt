@@ -1,2 +1,3 @@
 -- Lemmas.
 mod Samples
+pub mod TableLemmas

@@ -75,7 +75,7 @@ field_chosen at name (Some _) = nothing (lone cause.E07 at)
 field_chosen at name None = nothing []
 
 -- the index type of an array
-abbrev pub index_type : Option AnyType → Option Simple
+unfoldable pub index_type : Option AnyType → Option Simple
 index_type (Some (ArrayForm over item)) = Some over
 index_type _ = None
 
@@ -85,7 +85,7 @@ index_fits (Some over) type = has_values_of over type
 index_fits None type = true
 
 -- `[index]`: E07 at the first token of the designator where there is no array; a wrong index has E07 of its own
-abbrev pub item_chosen : Span → Bool → Option AnyType → Chosen
+unfoldable pub item_chosen : Span → Bool → Option AnyType → Chosen
 item_chosen at typed (Some (ArrayForm over item)) = record { type = only_if typed (Some item); faults = [] }
 item_chosen at typed (Some _) = nothing (lone cause.E07 at)
 item_chosen at typed None = nothing []

@@ -3,6 +3,7 @@ pub mod Forms
 pub mod Places
 pub mod Faults
 pub mod Scopes
+pub mod Table
 pub mod Fitting
 pub mod Constants
 pub mod Weights

@@ -4,4 +4,6 @@
 
 pub mod fault;
 pub mod laws;
+pub mod names;
 pub mod scope;
+pub mod shared;

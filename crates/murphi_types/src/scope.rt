@@ -1,6 +1,10 @@
 //! What names stand for, and which are in scope.
 
-use murphi_ast::text::Text;
+ghost use Rattle.std.specs.Prelude.{◌≡◌, IfOk};
+
+use crate::names::Names;
+use crate::shared::Shared;
+use murphi_ast::text::{Memory, Text};
 use murphi_typed::expr::Root;
 use murphi_typed::protocol::{Routine, Variable};
 use murphi_typed::types::{AnyType, Kind, Simple};
@@ -12,9 +16,9 @@ pub enum Meaning {
     /// Its declaration has a fault: what uses it has none for that.
     Refused,
     Constant(i16),
-    TypeName(AnyType),
+    TypeName(Shared<AnyType>),
     /// A global, a local, or a formal. A formal by value may not be written.
-    Variable { root: Root, of: AnyType },
+    Variable { root: Root, of: Shared<AnyType> },
     /// A parameter of a ruleset, or the variable of a quantifier or of a `for`, by its number from the
     /// outermost.
     Bound { number: u32, over: Simple },
@@ -36,10 +40,10 @@ pub struct Entry {
 /// grows from part to part, since an enum may be written in any type.
 #[derive(Drop)]
 pub struct Known {
-    pub names: Items<Entry>,
+    pub names: Names,
     pub kinds: Items<Kind>,
     pub globals: Items<Variable>,
-    pub routines: Items<Routine>,
+    pub routines: Items<Shared<Routine>>,
     pub weights: Items<u64>,
 }
 
@@ -53,4 +57,34 @@ pub struct Scope {
     pub in_function: bool,
     pub routines: Items<Text>,
     pub node: Option<Text>,
+}
+
+impl Meaning {
+    /// The same once more, with no copy of its type.
+    pub fn share(&self) -> Result<Meaning, Memory>
+        ensures { IfOk result (λ m. m ≡ self.now) }
+    {
+        match self {
+            Meaning::Refused => Ok(Meaning::Refused),
+            Meaning::Constant(number) => Ok(Meaning::Constant(*number)),
+            Meaning::TypeName(of) => {
+                let of = of.share()?;
+                Ok(Meaning::TypeName(of))
+            }
+            Meaning::Variable { root, of } => {
+                let of = of.share()?;
+                Ok(Meaning::Variable { root: *root, of })
+            }
+            Meaning::Bound { number, over } => Ok(Meaning::Bound {
+                number: *number,
+                over: *over,
+            }),
+            Meaning::Member { kind, index, count } => Ok(Meaning::Member {
+                kind: *kind,
+                index: *index,
+                count: *count,
+            }),
+            Meaning::Routine(number) => Ok(Meaning::Routine(*number)),
+        }
+    }
 }

@@ -1,0 +1,3 @@
+-- Lemmas.
+pub mod DesignatorEquations
+pub mod EnumLemmas
