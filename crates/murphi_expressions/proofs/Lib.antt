@@ -1,0 +1,10 @@
+pub mod Heads
+pub mod SymbolNumbers
+pub mod Steps
+pub mod Ways
+pub mod SignLemmas
+pub mod NameArms
+pub mod Loops
+pub mod ChainArms
+pub mod ExprArms
+pub mod TypeArms

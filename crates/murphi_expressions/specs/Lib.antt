@@ -1,0 +1,4 @@
+-- The words of the contracts of this crate.
+pub mod Says
+pub mod Levels
+pub mod Parts
