@@ -13,3 +13,4 @@ pub mod QuantifierLemmas
 pub mod PartLemmas
 pub mod ExpressionLaw
 pub mod ChangeLemmas
+pub mod LeftLemmas
