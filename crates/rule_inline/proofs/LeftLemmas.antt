@@ -21,7 +21,7 @@ use Rattle.rule_inline.proofs.Outcome.{AllHold, all_joined, constant_false, all_
 use Rattle.rule_inline.proofs.SceneLemmas.{at_frame, inner}
 use Rattle.rule_inline.proofs.ChangeLemmas.{InScope, Unwritten, CallsUnwritten, stmt_unwritten}
 
-some_or_none : {A : Type 0} (o : Option A) → is_some o ≡ false → o ≡ None
+pub some_or_none : {A : Type 0} (o : Option A) → is_some o ≡ false → o ≡ None
 some_or_none None e = refl
 some_or_none (Some x) e = cc
 

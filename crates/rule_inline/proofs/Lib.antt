@@ -14,3 +14,4 @@ pub mod PartLemmas
 pub mod ExpressionLaw
 pub mod ChangeLemmas
 pub mod LeftLemmas
+pub mod EndLemmas
