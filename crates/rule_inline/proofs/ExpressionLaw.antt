@@ -53,10 +53,10 @@ use Rattle.rule_inline.proofs.Outcome.{Either, either_map, AllHold, SomeFails, T
 use Rattle.rule_inline.proofs.PlaceLemmas.{NoNodes, Rep, IndexIs, Leads}
 use Rattle.rule_inline.proofs.WriteLemmas.{Shows, only_shows, Spots, place_shows}
 use Rattle.rule_inline.proofs.TypeLemmas.{not_some, some_one, only_parts, simples_one, of_type, not_undefined, defined_is, index_is, EachValue, are_values, values_fixed, index_leads}
-use Rattle.rule_inline.proofs.ArithLemmas.{number_value, tells_calculated}
+use Rattle.rule_inline.proofs.ArithLemmas.{number_value, tells_calculated, Storable}
 use Rattle.rule_inline.proofs.SceneLemmas.{Sound, sound_binding, GiftIs, GiftsAre, bound_there, rep_under, at_frame, inner, Sited, site_under, site_value, root_spots}
 use Rattle.rule_inline.proofs.QuantifierLemmas.{given_twice, tells_before, tells_after, tells_nodes, quantified, tells_values}
-use Rattle.rule_inline.proofs.PartLemmas.{Here, ArgIs, ArgsAre, FunctionTells, widened_found, found_simple, bound_found, none_selected, none_chain, rooted, equal_types, comparable_types, operand_widened, row_more, value_typed, compound_typed, place_typed, each_map, leads_joined, tells_got, IsTold, IsTyped, told_not, told_minus, told_compared, told_implied, told_choice, told_chain, defined_told, index_told}
+use Rattle.rule_inline.proofs.PartLemmas.{Here, ArgIs, ArgsAre, FunctionTells, widened_found, found_simple, bound_found, none_selected, none_chain, rooted, equal_types, comparable_types, operand_widened, row_more, value_typed, compound_typed, place_typed, given_into, given_no_simple, each_map, leads_joined, tells_got, IsTold, IsTyped, told_not, told_minus, told_compared, told_implied, told_choice, told_chain, defined_told, index_told}
 
 -- what a function leaves is its result
 tells_result : (N : ℕ) (s : Cells) (fr : List ℕ) (at : Span) (qs : List Demand) (o : Outcome Left) (term : Term) → Tells N s fr o qs (λ left. (w : Value) × (left.result ≡ Some w) × (value_of N s fr term ≡ w)) → Tells N s fr (given o (λ left. or_fault at left.result)) qs (λ y. value_of N s fr term ≡ y)
@@ -157,7 +157,7 @@ module _ (binds : PlacingBinds) (fit : ValuesFitInBodies) (s : Cells) (types : D
       (λ xs leads. record { reach = base.reach; owner = base.owner; path = ap (λ path. path ++ row_path selectors) base.path; leads = leads_joined h.scene.nodes s h.fr (root_spot (at_frame h.fr h.site) root).at ((indices_of tcalls (at_frame h.fr h.site) h.T selectors).indices) p.at xs base.leads leads }))
 
   -- a call of a function, given its arguments
-  call_told : (h : H) (k : ℕ) (args : Arguments) (u : Simple) → option_and_then (λ r. only_if (arguments_fit h.scope r.formals args) (option_map widened r.result)) (slice_get h.scope.routines k) ≡ Some u → ((formals : List DeclaredFormal) → arguments_fit h.scope formals args ≡ true → Tells h.scene.nodes s h.fr (arguments_of calls h.scene h.at h.cells args) ((argued_of tcalls (at_frame h.fr h.site) h.T args).demands) (λ gs. ArgsAre h.scene.nodes s h.scene.depth h.fr ((argued_of tcalls (at_frame h.fr h.site) h.T args).given) gs)) → Told h (given (arguments_of calls h.scene h.at h.cells args) (λ gs. given (calls k h.scene h.at gs h.cells) (λ left. or_fault h.at left.result))) (with_calls tcalls k (at_frame h.fr h.site) h.T (argued_of tcalls (at_frame h.fr h.site) h.T args))
+  call_told : (h : H) (k : ℕ) (args : Arguments) (u : Simple) → option_and_then (λ r. only_if (arguments_fit h.scope r.formals args) (option_map widened r.result)) (slice_get h.scope.routines k) ≡ Some u → ((formals : List DeclaredFormal) → arguments_fit h.scope formals args ≡ true → Tells h.scene.nodes s h.fr (arguments_of calls h.scene h.at h.cells args) ((argued_of tcalls (at_frame h.fr h.site) h.T args).demands) (λ gs. ArgsAre h.scene.nodes s h.scene.depth h.fr formals ((argued_of tcalls (at_frame h.fr h.site) h.T args).given) gs)) → Told h (given (arguments_of calls h.scene h.at h.cells args) (λ gs. given (calls k h.scene h.at gs h.cells) (λ left. or_fault h.at left.result))) (with_calls tcalls k (at_frame h.fr h.site) h.T (argued_of tcalls (at_frame h.fr h.site) h.T args))
   call_told h k args u e arguments = go (slice_get h.scope.routines k) refl e
     where
       given_args : Argued
@@ -178,14 +178,27 @@ module _ (binds : PlacingBinds) (fit : ValuesFitInBodies) (s : Cells) (types : D
   undefined_value : (h : H) (spot : Spot) (p : Place) → value_of h.scene.nodes s h.fr (read_of (length h.fr) h.T spot) ≡ cell_at h.cells p → value_of h.scene.nodes s h.fr (t.Same (read_of (length h.fr) h.T spot) undefined) ≡ v.Truth (same_value (cell_at h.cells p) v.Undefined)
   undefined_value h spot p is = value-Same h.scene.nodes s h.fr (read_of (length h.fr) h.T spot) undefined ∙ ap (λ y. v.Truth (same_value y (value_of h.scene.nodes s h.fr undefined))) is ∙ ap (λ y. v.Truth (same_value (cell_at h.cells p) y)) (value-Known h.scene.nodes s h.fr v.Undefined)
 
-  filled_is : (h : H) (mark : Option ℕ) (term : Term) (g : Given) → ((y : Value) × (g ≡ Filled (only y)) × (value_of h.scene.nodes s h.fr term ≡ y) × (same_value y v.Undefined ≡ false)) → ArgIs h.scene.nodes s h.scene.depth h.fr (Filling mark false (only_term (length h.fr) term)) g
-  filled_is h mark term g facts =
-      let (y, g_is, value, there) = facts in
-      subst (λ g. ArgIs h.scene.nodes s h.scene.depth h.fr (Filling mark false (only_term (length h.fr) term)) g) (sym g_is) (only_shows h.scene.nodes s h.fr term y value, λ e. there)
+  -- the cell of a designator is undefined or of its type
+  pub cell_storable : (h : H) (place : Designator) (q : Place) (into : Simple) → place_of calls h.scene h.at h.cells place ≡ Got q → option_map widened (simple_part (place_type h.scope place)) ≡ Some (widened into) → Storable h.scene.nodes s h.fr true into (cell_at h.cells q)
+  unfolding worked type_of
+  cell_storable h place q into was e = go (cell_at h.cells q) refl
+    where
+      read_is : (w : Value) → cell_at h.cells q ≡ w → result h (x.Read place) ≡ defined h.at w
+      read_is w is = ap (λ o. given o (λ p. defined h.at (cell_at h.cells p))) was ∙ ap (defined h.at) is
+
+      fine : (w : Value) → result h (x.Read place) ≡ Got w → is_value h.scene.nodes (widened into) w ≡ true
+      fine w is = typed h (x.Read place) (widened into) e w is
+
+      go : (w : Value) → cell_at h.cells q ≡ w → Storable h.scene.nodes s h.fr true into w
+      go v.Undefined is = inr (refl, refl)
+      go (v.Truth b) is = inl (fine (v.Truth b) (read_is (v.Truth b) is))
+      go (v.Number z) is = inl (fine (v.Number z) (read_is (v.Number z) is))
+      go (v.Member k i) is = inl (fine (v.Member k i) (read_is (v.Member k i) is))
+      go (v.Node n) is = inl (fine (v.Node n) (read_is (v.Node n) is))
 
   -- arguments, one before others
-  one_told : (h : H) (f : Gift) (ds : List Demand) (rest : Argued) (o : Outcome Given) (p : Outcome (List Given)) → Tells h.scene.nodes s h.fr o ds (λ g. ArgIs h.scene.nodes s h.scene.depth h.fr f g) → Tells h.scene.nodes s h.fr p rest.demands (λ gs. ArgsAre h.scene.nodes s h.scene.depth h.fr rest.given gs) → Tells h.scene.nodes s h.fr (given o (λ g. given p (λ gs. Got (g ∷ gs)))) (ds ++ rest.demands) (λ gs. ArgsAre h.scene.nodes s h.scene.depth h.fr (f ∷ rest.given) gs)
-  one_told h f ds rest o p first second =
+  one_told : (h : H) (formals : List DeclaredFormal) (f : Gift) (ds : List Demand) (rest : Argued) (o : Outcome Given) (p : Outcome (List Given)) → Tells h.scene.nodes s h.fr o ds (λ g. ArgIs h.scene.nodes s h.scene.depth h.fr (first_of formals) f g) → Tells h.scene.nodes s h.fr p rest.demands (λ gs. ArgsAre h.scene.nodes s h.scene.depth h.fr (rest_of formals) rest.given gs) → Tells h.scene.nodes s h.fr (given o (λ g. given p (λ gs. Got (g ∷ gs)))) (ds ++ rest.demands) (λ gs. ArgsAre h.scene.nodes s h.scene.depth h.fr formals (f ∷ rest.given) gs)
+  one_told h formals f ds rest o p first second =
       tells_given h.scene.nodes s h.fr ds rest.demands o _ _ _ first
       (λ g was is. tells_then h.scene.nodes s h.fr rest.demands p (λ gs. g ∷ gs) _ _ second (λ gs are. (is, are)))
 
@@ -288,35 +301,37 @@ module _ (binds : PlacingBinds) (fit : ValuesFitInBodies) (s : Cells) (types : D
         (index_told h.scene.nodes s h.fr h.at over (mark_of (at_frame h.fr h.site) index) (taken h index).term y is (typed h index (widened over) found y was))
         (λ z was' index_is. tells_then h.scene.nodes s h.fr ((indices_of tcalls (at_frame h.fr h.site) h.T rest).demands) (worked_indices calls h.scene h.at h.cells rest) (λ zs. z ∷ zs) _ _ (tells_indices rest h (item_part o over) U more) (λ zs leads. (index_is, leads))))))
 
-    pub tells_arguments : (args : Arguments) (h : H) (formals : List DeclaredFormal) → arguments_fit h.scope formals args ≡ true → Tells h.scene.nodes s h.fr (arguments_of calls h.scene h.at h.cells args) ((argued_of tcalls (at_frame h.fr h.site) h.T args).demands) (λ gs. ArgsAre h.scene.nodes s h.scene.depth h.fr ((argued_of tcalls (at_frame h.fr h.site) h.T args).given) gs)
+    pub tells_arguments : (args : Arguments) (h : H) (formals : List DeclaredFormal) → arguments_fit h.scope formals args ≡ true → Tells h.scene.nodes s h.fr (arguments_of calls h.scene h.at h.cells args) ((argued_of tcalls (at_frame h.fr h.site) h.T args).demands) (λ gs. ArgsAre h.scene.nodes s h.scene.depth h.fr formals ((argued_of tcalls (at_frame h.fr h.site) h.T args).given) gs)
     tells_arguments (a.Of' _ args) h formals fits = tells_row args h formals fits
 
-    tells_row : {n : _} (args : Row_of-Argument n) (h : H) (formals : List DeclaredFormal) → row_fits h.scope formals args ≡ true → Tells h.scene.nodes s h.fr (row_arguments calls h.scene h.at h.cells args) ((row_argued tcalls (at_frame h.fr h.site) h.T args).demands) (λ gs. ArgsAre h.scene.nodes s h.scene.depth h.fr ((row_argued tcalls (at_frame h.fr h.site) h.T args).given) gs)
+    tells_row : {n : _} (args : Row_of-Argument n) (h : H) (formals : List DeclaredFormal) → row_fits h.scope formals args ≡ true → Tells h.scene.nodes s h.fr (row_arguments calls h.scene h.at h.cells args) ((row_argued tcalls (at_frame h.fr h.site) h.T args).demands) (λ gs. ArgsAre h.scene.nodes s h.scene.depth h.fr formals ((row_argued tcalls (at_frame h.fr h.site) h.T args).given) gs)
     tells_row end_of-Argument h formals fits = (tt, tt)
     tells_row (more_of-Argument first rest) h formals fits =
         let (one, more) = and_parts (argument_fits h.scope (first_of formals) first) (row_fits h.scope (rest_of formals) rest) (sym (row_more h.scope formals first rest) ∙ fits) in
-        tells_argument first h (first_of formals) one (row_argued tcalls (at_frame h.fr h.site) h.T rest) (row_arguments calls h.scene h.at h.cells rest) (tells_row rest h (rest_of formals) more)
+        tells_argument first h formals one (row_argued tcalls (at_frame h.fr h.site) h.T rest) (row_arguments calls h.scene h.at h.cells rest) (tells_row rest h (rest_of formals) more)
 
-    tells_argument : (first : argument.Argument) (h : H) (formal : Option DeclaredFormal) → argument_fits h.scope formal first ≡ true → (rest : Argued) (p : Outcome (List Given)) → Tells h.scene.nodes s h.fr p rest.demands (λ gs. ArgsAre h.scene.nodes s h.scene.depth h.fr rest.given gs) → Tells h.scene.nodes s h.fr (given (argument_of calls h.scene h.at h.cells first) (λ g. given p (λ gs. Got (g ∷ gs)))) ((one_argued tcalls (at_frame h.fr h.site) h.T first rest).demands) (λ gs. ArgsAre h.scene.nodes s h.scene.depth h.fr ((one_argued tcalls (at_frame h.fr h.site) h.T first rest).given) gs)
-    tells_argument (argument.Copy place) h formal fits rest p told =
-        let (u, found) = value_typed formal (option_map widened (simple_part (place_type h.scope place))) fits in
+    tells_argument : (first : argument.Argument) (h : H) (formals : List DeclaredFormal) → argument_fits h.scope (first_of formals) first ≡ true → (rest : Argued) (p : Outcome (List Given)) → Tells h.scene.nodes s h.fr p rest.demands (λ gs. ArgsAre h.scene.nodes s h.scene.depth h.fr (rest_of formals) rest.given gs) → Tells h.scene.nodes s h.fr (given (argument_of calls h.scene h.at h.cells first) (λ g. given p (λ gs. Got (g ∷ gs)))) ((one_argued tcalls (at_frame h.fr h.site) h.T first rest).demands) (λ gs. ArgsAre h.scene.nodes s h.scene.depth h.fr formals ((one_argued tcalls (at_frame h.fr h.site) h.T first rest).given) gs)
+    tells_argument (argument.Copy place) h formals fits rest p told =
+        let (u, found) = value_typed (first_of formals) (option_map widened (simple_part (place_type h.scope place))) fits in
         let (w, is, wide) = widened_found (place_type h.scope place) u found in
-        one_told h (Filling (place_mark (at_frame h.fr h.site) place) true (only_term (length h.fr) (read_of (length h.fr) h.T (placed_of tcalls (at_frame h.fr h.site) h.T place).spot))) ((placed_of tcalls (at_frame h.fr h.site) h.T place).demands) rest (argument_of calls h.scene h.at h.cells (argument.Copy place)) p
-        (tells_then h.scene.nodes s h.fr ((placed_of tcalls (at_frame h.fr h.site) h.T place).demands) (place_of calls h.scene h.at h.cells place) (λ q. Filled (only (cell_at h.cells q))) _ _ (tells_place place h (type.Simple w) is)
-        (λ q spots. (only_shows h.scene.nodes s h.fr (read_of (length h.fr) h.T (placed_of tcalls (at_frame h.fr h.site) h.T place).spot) (cell_at h.cells q) (read_value h (placed_of tcalls (at_frame h.fr h.site) h.T place).spot q spots), λ wrong. absurd_false (sym wrong)))) told
-    tells_argument (argument.CopyAll place) h formal fits rest p told =
-        let (U, is) = compound_typed formal (place_type h.scope place) fits in
-        one_told h (Filling None true (shown_at (length h.fr) h.T (placed_of tcalls (at_frame h.fr h.site) h.T place).spot)) ((placed_of tcalls (at_frame h.fr h.site) h.T place).demands) rest (argument_of calls h.scene h.at h.cells (argument.CopyAll place)) p
+        one_told h formals (Filling (place_mark (at_frame h.fr h.site) place) true (only_term (length h.fr) (read_of (length h.fr) h.T (placed_of tcalls (at_frame h.fr h.site) h.T place).spot))) ((placed_of tcalls (at_frame h.fr h.site) h.T place).demands) rest (argument_of calls h.scene h.at h.cells (argument.Copy place)) p
+        (tells_then h.scene.nodes s h.fr ((placed_of tcalls (at_frame h.fr h.site) h.T place).demands) (place_of calls h.scene h.at h.cells place) (λ q. Filled (only (cell_at h.cells q))) (λ q. Spots h.scene.nodes s h.scene.depth h.fr (placed_of tcalls (at_frame h.fr h.site) h.T place).spot q × (place_of calls h.scene h.at h.cells place ≡ Got q)) _
+        (tells_got h.scene.nodes s h.fr ((placed_of tcalls (at_frame h.fr h.site) h.T place).demands) (place_of calls h.scene h.at h.cells place) _ _ (tells_place place h (type.Simple w) is) (λ q was spots. (spots, was)))
+        (λ q both. (only_shows h.scene.nodes s h.fr (read_of (length h.fr) h.T (placed_of tcalls (at_frame h.fr h.site) h.T place).spot) (cell_at h.cells q) (read_value h (placed_of tcalls (at_frame h.fr h.site) h.T place).spot q both.0),
+        λ f into found_f simple_f. cell_storable h place q into both.1 (given_into (first_of formals) (option_map widened (simple_part (place_type h.scope place))) f into fits found_f simple_f)))) told
+    tells_argument (argument.CopyAll place) h formals fits rest p told =
+        let (U, is) = compound_typed (first_of formals) (place_type h.scope place) fits in
+        one_told h formals (Filling None true (shown_at (length h.fr) h.T (placed_of tcalls (at_frame h.fr h.site) h.T place).spot)) ((placed_of tcalls (at_frame h.fr h.site) h.T place).demands) rest (argument_of calls h.scene h.at h.cells (argument.CopyAll place)) p
         (tells_then h.scene.nodes s h.fr ((placed_of tcalls (at_frame h.fr h.site) h.T place).demands) (place_of calls h.scene h.at h.cells place) (λ q. Filled (contents_at h.cells q)) _ _ (tells_place place h U is)
-        (λ q spots. (place_shows h.scene.nodes s binds h.scene.depth h.fr h.T h.cells (placed_of tcalls (at_frame h.fr h.site) h.T place).spot q h.rep spots, λ wrong. absurd_false (sym wrong)))) told
-    tells_argument (argument.Value body) h formal fits rest p told =
-        let (u, found) = value_typed formal (type_of h.scope body) fits in
-        one_told h (Filling (mark_of (at_frame h.fr h.site) body) false (only_term (length h.fr) (taken h body).term)) (taken h body).demands rest (argument_of calls h.scene h.at h.cells (argument.Value body)) p
-        (tells_got h.scene.nodes s h.fr (taken h body).demands (argument_of calls h.scene h.at h.cells (argument.Value body)) _ _ (tells_then h.scene.nodes s h.fr (taken h body).demands (result h body) (λ y. Filled (only y)) _ (λ g. (y : Value) × (g ≡ Filled (only y)) × (value_of h.scene.nodes s h.fr (taken h body).term ≡ y) × (same_value y v.Undefined ≡ false))
-        (tells_got h.scene.nodes s h.fr (taken h body).demands (result h body) _ (λ y. (value_of h.scene.nodes s h.fr (taken h body).term ≡ y) × (same_value y v.Undefined ≡ false)) (tells_value body h u found) (λ y was is. (is, not_undefined h.scene.nodes u y (typed h body u found y was)))) (λ y both. (y, refl, both.0, both.1)))
-        (λ g was facts. filled_is h (mark_of (at_frame h.fr h.site) body) (taken h body).term g facts)) told
-    tells_argument (argument.Place place) h formal fits rest p told =
-        let (writable, one) = and_parts (may_write h.scope (root_of place)) (given_place formal (place_type h.scope place)) fits in
-        let (U, is) = place_typed formal (place_type h.scope place) one in
-        one_told h (Placing (placed_of tcalls (at_frame h.fr h.site) h.T place).spot) ((placed_of tcalls (at_frame h.fr h.site) h.T place).demands) rest (argument_of calls h.scene h.at h.cells (argument.Place place)) p
+        (λ q spots. (place_shows h.scene.nodes s binds h.scene.depth h.fr h.T h.cells (placed_of tcalls (at_frame h.fr h.site) h.T place).spot q h.rep spots, λ f into found_f simple_f. given_no_simple (first_of formals) (place_type h.scope place) f into fits found_f simple_f))) told
+    tells_argument (argument.Value body) h formals fits rest p told =
+        let (u, found) = value_typed (first_of formals) (type_of h.scope body) fits in
+        one_told h formals (Filling (mark_of (at_frame h.fr h.site) body) false (only_term (length h.fr) (taken h body).term)) (taken h body).demands rest (argument_of calls h.scene h.at h.cells (argument.Value body)) p
+        (tells_then h.scene.nodes s h.fr (taken h body).demands (result h body) (λ y. Filled (only y)) (λ y. (value_of h.scene.nodes s h.fr (taken h body).term ≡ y) × (result h body ≡ Got y)) _
+        (tells_got h.scene.nodes s h.fr (taken h body).demands (result h body) _ _ (tells_value body h u found) (λ y was is. (is, was)))
+        (λ y both. (only_shows h.scene.nodes s h.fr (taken h body).term y both.0, λ f into found_f simple_f. inl (typed h body (widened into) (given_into (first_of formals) (type_of h.scope body) f into fits found_f simple_f) y both.1)))) told
+    tells_argument (argument.Place place) h formals fits rest p told =
+        let (writable, one) = and_parts (may_write h.scope (root_of place)) (given_place (first_of formals) (place_type h.scope place)) fits in
+        let (U, is) = place_typed (first_of formals) (place_type h.scope place) one in
+        one_told h formals (Placing (placed_of tcalls (at_frame h.fr h.site) h.T place).spot) ((placed_of tcalls (at_frame h.fr h.site) h.T place).demands) rest (argument_of calls h.scene h.at h.cells (argument.Place place)) p
         (tells_then h.scene.nodes s h.fr ((placed_of tcalls (at_frame h.fr h.site) h.T place).demands) (place_of calls h.scene h.at h.cells place) Standing _ _ (tells_place place h U is) (λ q spots. spots)) told

@@ -13,3 +13,5 @@ pub mod QuantifierLemmas
 pub mod PartLemmas
 pub mod ExpressionLaw
 pub mod ChangeLemmas
+pub mod LeftLemmas
+pub mod EndLemmas

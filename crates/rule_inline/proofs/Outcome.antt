@@ -135,7 +135,7 @@ module _ (N : ℕ) (s : Cells) where
         body_value (fr ++ bound) (one_under (length fr) test q)
         ∙ ap (λ x. not (x && list_all (is_true N s (fr ++ bound)) (q.tests ++ negated q.lefts)) || is_true N s (fr ++ bound) q.must) (lifted_test bound q.binders long ∙ is)
 
-    all_under : (qs : List Demand) → is_true N s fr test ≡ true → AllHold fr qs → AllHold fr (under_test (length fr) test qs)
+    pub all_under : (qs : List Demand) → is_true N s fr test ≡ true → AllHold fr qs → AllHold fr (under_test (length fr) test qs)
     all_under [] is a = tt
     all_under (q ∷ qs) is (h, a) = (λ bound long ns. under_same bound q long is ∙ h bound long ns, all_under qs is a)
 

@@ -40,8 +40,9 @@ use Rattle.murphi_typed.specs.Values.{is_value, values}
 use Rattle.murphi_typed.specs.Store.{Place, Contents, Cells as Store, cell_at, contents_at, only}
 use Rattle.murphi_typed.specs.Outcome.{Outcome, Got, Fault, given, or_fault}
 use Rattle.murphi_typed.specs.Expressions.{Given, Filled, Standing, Scene, Left, Calls, as_truth, calculated, joined, compared, defined, over_all, with_bound, root_place, under, row_path, fitting, value_of as worked, chain_value as worked_chain, place_of, indices_of as worked_indices, arguments_of, row_arguments, argument_of}
+use Rattle.murphi_typed.specs.Execution.{simple_type}
 use Rattle.murphi_typed.specs.Prefix.{is_over_nodes}
-use Rattle.murphi_typed.specs.WellTyped.{Scope, binding as scope_binding, numbers, widened, is_simple_type, root_type, simple_part, field_part, item_part, is_of, only_if, operand_type, comparable, first_of, rest_of, is_compound, given_value, given_compound, given_place, type_of, chain_type, place_type, selected_type, arguments_fit, row_fits, argument_fits}
+use Rattle.murphi_typed.specs.WellTyped.{Scope, binding as scope_binding, numbers, widened, is_simple_type, root_type, simple_part, field_part, item_part, is_of, only_if, operand_type, comparable, first_of, rest_of, is_compound, place_fits, given_value, given_compound, given_place, type_of, chain_type, place_type, selected_type, arguments_fit, row_fits, argument_fits}
 use Rattle.murphi_typed.specs.Keeping.{Declared}
 use Rattle.murphi_typed.specs.Laws.{ValuesFitInBodies}
 use Rattle.rule_inline.specs.Demands.{Demand, demand, under_test, binding}
@@ -53,7 +54,7 @@ use Rattle.rule_inline.proofs.Outcome.{Either, either_map, AllHold, SomeFails, T
 use Rattle.rule_inline.proofs.PlaceLemmas.{NoNodes, Rep, IndexIs, Leads}
 use Rattle.rule_inline.proofs.WriteLemmas.{Shows, only_shows, Spots, place_shows}
 use Rattle.rule_inline.proofs.TypeLemmas.{not_some, some_one, only_parts, simples_one, of_type, not_undefined, defined_is, index_is, EachValue, are_values, values_fixed, index_leads}
-use Rattle.rule_inline.proofs.ArithLemmas.{number_value, tells_calculated}
+use Rattle.rule_inline.proofs.ArithLemmas.{number_value, tells_calculated, Storable}
 use Rattle.rule_inline.proofs.SceneLemmas.{Sound, sound_binding, GiftIs, GiftsAre, bound_there, rep_under, at_frame, inner, Sited, site_under, site_value, root_spots}
 use Rattle.rule_inline.proofs.QuantifierLemmas.{given_twice, tells_before, tells_after, tells_nodes, quantified, tells_values}
 
@@ -141,18 +142,21 @@ pub record Here (s : Cells) (types : Declared) (calls : Calls) (routines : List 
   pub sited : Sited s fr site scene
   pub rep : Rep scene.nodes s scene.depth fr T cells
 
--- an argument as it is given
-abbrev pub ArgIs : ℕ → Cells → ℕ → List ℕ → Gift → Given → Type 0
-ArgIs N s depth fr (Filling mark plain shown) (Filled contents) = Shows N s fr shown contents × (plain ≡ false → same_value (contents [] []) v.Undefined ≡ false)
-ArgIs N s depth fr (Filling mark plain shown) (Standing place) = ⊥
-ArgIs N s depth fr (Placing spot) (Filled contents) = ⊥
-ArgIs N s depth fr (Placing spot) (Standing place) = Spots N s depth fr spot place
+-- an argument as it is given to a formal: what it stands for, and that its value is one that may be stored there
+abbrev pub Fitting : ℕ → Cells → List ℕ → Option DeclaredFormal → Bool → Contents → Type 0
+Fitting N s fr formal plain contents = (f : DeclaredFormal) (into : Simple) → formal ≡ Some f → simple_type f.of ≡ Some into → Storable N s fr plain into (contents [] [])
 
-abbrev pub ArgsAre : ℕ → Cells → ℕ → List ℕ → List Gift → List Given → Type 0
-ArgsAre N s depth fr [] [] = Unit {0}
-ArgsAre N s depth fr [] (g ∷ gs) = ⊥
-ArgsAre N s depth fr (f ∷ fs) [] = ⊥
-ArgsAre N s depth fr (f ∷ fs) (g ∷ gs) = ArgIs N s depth fr f g × ArgsAre N s depth fr fs gs
+abbrev pub ArgIs : ℕ → Cells → ℕ → List ℕ → Option DeclaredFormal → Gift → Given → Type 0
+ArgIs N s depth fr formal (Filling mark plain shown) (Filled contents) = Shows N s fr shown contents × Fitting N s fr formal plain contents
+ArgIs N s depth fr formal (Filling mark plain shown) (Standing place) = ⊥
+ArgIs N s depth fr formal (Placing spot) (Filled contents) = ⊥
+ArgIs N s depth fr formal (Placing spot) (Standing place) = Spots N s depth fr spot place
+
+abbrev pub ArgsAre : ℕ → Cells → ℕ → List ℕ → List DeclaredFormal → List Gift → List Given → Type 0
+ArgsAre N s depth fr formals [] [] = Unit {0}
+ArgsAre N s depth fr formals [] (g ∷ gs) = ⊥
+ArgsAre N s depth fr formals (f ∷ fs) [] = ⊥
+ArgsAre N s depth fr formals (f ∷ fs) (g ∷ gs) = ArgIs N s depth fr (first_of formals) f g × ArgsAre N s depth fr (rest_of formals) fs gs
 
 -- what is asked of a call of a function with arguments that were worked out
 abbrev pub FunctionTells : (s : Cells) (types : Declared) (calls : Calls) (routines : List Routine) (tcalls : TermCalls) → Here s types calls routines → Type 0
@@ -160,7 +164,7 @@ FunctionTells s types calls routines tcalls h =
     (k : ℕ) (r : Routine) (u : Simple) (args : Arguments) (gs : List Given) (gifts : List Gift)
     → slice_get routines k ≡ Some r → r.result ≡ Some u → arguments_fit h.scope r.formals args ≡ true
     → arguments_of calls h.scene h.at h.cells args ≡ Got gs
-    → ArgsAre h.scene.nodes s h.scene.depth h.fr gifts gs
+    → ArgsAre h.scene.nodes s h.scene.depth h.fr r.formals gifts gs
     → Tells h.scene.nodes s h.fr (calls k h.scene h.at gs h.cells) ((tcalls k (at_frame h.fr h.site) h.T gifts).demands ++ demand ((tcalls k (at_frame h.fr h.site) h.T gifts).change.now Leaving) ∷ [])
     (λ left. (w : Value) × (left.result ≡ Some w) × (value_of h.scene.nodes s h.fr ((tcalls k (at_frame h.fr h.site) h.T gifts).change.now Result) ≡ w))
 
@@ -206,6 +210,33 @@ place_typed (Some f) None e = absurd_false (sym (go f.by_place) ∙ e)
     go : (b : Bool) → (b && false) ≡ false
     go true = refl
     go false = refl
+
+-- what is given to a formal by value of simple type is of that type, as far as bounds go
+into_part : (U : AnyType) (into : Simple) → simple_type U ≡ Some into → simple_part (Some U) ≡ Some into
+into_part (type.Simple w) into e = e
+into_part (type.Record' _ fields) into e = not_some e
+into_part (type.Array' _ _ item) into e = not_some e
+
+no_compound : (U : AnyType) (into : Simple) → simple_type U ≡ Some into → is_compound U ≡ false
+no_compound (type.Simple w) into e = refl
+no_compound (type.Record' _ fields) into e = not_some e
+no_compound (type.Array' _ _ item) into e = not_some e
+
+pub given_into : (formal : Option DeclaredFormal) (found : Option Simple) (f : DeclaredFormal) (into : Simple) → given_value formal found ≡ true → formal ≡ Some f → simple_type f.of ≡ Some into → found ≡ Some (widened into)
+given_into None found f into e is simple = absurd_false e
+given_into (Some g) found f into e is simple =
+    let same : g ≡ f = some_one is in
+    let (by_value, fits) = and_parts (not g.by_place) (option_map_or (λ u. is_of u found) (simple_part (Some g.of)) false) e in
+    of_type into found (ap (λ o. option_map_or (λ u. is_of u found) o false) (sym (ap (λ (h : DeclaredFormal). simple_part (Some h.of)) same ∙ into_part f.of into simple)) ∙ fits)
+
+pub given_no_simple : {R : Type 0} (formal : Option DeclaredFormal) (found : Option AnyType) (f : DeclaredFormal) (into : Simple) → given_compound formal found ≡ true → formal ≡ Some f → simple_type f.of ≡ Some into → R
+given_no_simple None found f into e is simple = absurd_false e
+given_no_simple (Some g) found f into e is simple =
+    let same : g ≡ f = some_one is in
+    let (by_value, rest) = and_parts (not g.by_place) (is_compound g.of && place_fits g.of found) e in
+    let (compound, other) = and_parts (is_compound g.of) (place_fits g.of found) rest in
+    absurd_false (sym (ap (λ (h : DeclaredFormal). is_compound h.of) same ∙ no_compound f.of into simple) ∙ compound)
+
 
 pub each_map : {P Q : Value → Type 0} (xs : List Value) → ((y : Value) → P y → Q y) → EachValue P xs → EachValue Q xs
 each_map [] f e = tt
