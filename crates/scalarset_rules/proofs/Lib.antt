@@ -12,3 +12,5 @@ pub mod Fine
 pub mod Walks
 pub mod Downs
 pub mod Texts
+pub mod ShapeEquations
+pub mod JudgeEquations

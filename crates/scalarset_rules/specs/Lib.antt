@@ -3,4 +3,5 @@ pub mod Accesses
 pub mod Rules
 pub mod Turns
 pub mod Apart
+pub mod Seen
 pub mod Worked
