@@ -14,3 +14,4 @@ pub mod Downs
 pub mod Texts
 pub mod ShapeEquations
 pub mod JudgeEquations
+pub mod PlaceEquations

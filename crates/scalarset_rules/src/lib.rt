@@ -4,4 +4,5 @@
 
 pub mod judge;
 pub mod laws;
+pub mod place;
 pub mod shape;
