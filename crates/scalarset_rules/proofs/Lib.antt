@@ -12,3 +12,6 @@ pub mod Fine
 pub mod Walks
 pub mod Downs
 pub mod Texts
+pub mod ShapeEquations
+pub mod JudgeEquations
+pub mod PlaceEquations

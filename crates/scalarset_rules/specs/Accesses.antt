@@ -21,20 +21,15 @@ use Rattle.murphi_typed.specs.Forms.{NotForm, MinusForm, CompareForm, ImpliesFor
 use Rattle.murphi_typed.specs.Families.{Name}
 use Rattle.murphi_typed.specs.Store.{Owner, Global, Local, Formal}
 use Rattle.murphi_typed.specs.Prefix.{is_over_nodes}
-
 -- a bound variable of an opened body: that of the body at this depth in calls, by its number there
-pub record Binder : Type 0 where
-  pub depth : ℕ
-  pub number : ℕ
+pub use Rattle.scalarset_rules.specs.declared.shape.Binder.{Binder}
+-- a part of a shape: a field, or the mark for an index. The mark has the bound variable that the index is itself,
+-- if it is one.
+pub use Rattle.scalarset_rules.specs.declared.shape.Part.{Part}
+pub use Rattle.scalarset_rules.specs.declared.shape.Part.TheVariants.{Field, Index}
 
 abbrev pub same_binder : Binder → Binder → Bool
 same_binder v w = nat_eq v.depth w.depth && nat_eq v.number w.number
-
--- a part of a shape: a field, or the mark for an index. The mark has the bound variable that the index is itself,
--- if it is one.
-pub data Part : Type 0 where
-  Field : Name → Part
-  Index : Option Binder → Part
 
 -- the shape of a designator: its variable, with its field names and a mark for each index
 pub record Shape : Type 0 where

@@ -3,4 +3,6 @@ pub mod Accesses
 pub mod Rules
 pub mod Turns
 pub mod Apart
+pub mod Pieces
+pub mod Seen
 pub mod Worked

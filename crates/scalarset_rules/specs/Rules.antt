@@ -25,12 +25,9 @@ use Rattle.murphi_typed.specs.Forms.{ArrayForm}
 use Rattle.murphi_typed.specs.Store.{Owner, Global, Local, Formal, same_owner}
 use Rattle.murphi_typed.specs.Execution.{at_of}
 use Rattle.murphi_typed.specs.Prefix.{is_over_nodes}
-use Rattle.scalarset_rules.specs.Accesses.{Binder, same_binder, Part, Field, Index, Shape, Stand, Valued, Placed, whole_shape, Scope, Access, Loop, loops, opened_routines, routine_loops}
-
 -- a break of a rule, by its number from 1 to 9, at a place of the text
-pub record Break : Type 0 where
-  pub rule : ℕ
-  pub at : Span
+pub use Rattle.scalarset_rules.specs.declared.judge.Break.{Break}
+use Rattle.scalarset_rules.specs.Accesses.{Binder, same_binder, Part, Field, Index, Shape, Stand, Valued, Placed, whole_shape, Scope, Access, Loop, loops, opened_routines, routine_loops}
 
 abbrev pub breaks_at : ℕ → List Span → List Break
 breaks_at rule places = map (λ at. record { rule = rule; at = at }) places

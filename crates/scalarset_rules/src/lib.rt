@@ -2,4 +2,7 @@
 //! the turns of a `for` over nodes do not meet. The definitions stand in `specs/`.
 #![tactic(auto)]
 
+pub mod judge;
 pub mod laws;
+pub mod place;
+pub mod shape;
