@@ -31,7 +31,8 @@ pub fn expression(
     ensures told { TellsExpression tokens.now at result }
 
     // What may be told is answered, unless memory runs out.
-    ensures only { (answer : Result (Expr × ℕ) SyntaxRefusal) → TellsExpression tokens.now at answer → IsAnswered result answer }
+    ensures only { (answer : Result (Expr × ℕ) SyntaxRefusal) → TellsExpression tokens.now at answer →
+        IsAnswered result answer }
 {
     walks_are_readings();
     one_reading();
