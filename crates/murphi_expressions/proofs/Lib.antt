@@ -8,3 +8,5 @@ pub mod Loops
 pub mod ChainArms
 pub mod ExprArms
 pub mod TypeArms
+pub mod NoEnd
+pub mod Telling

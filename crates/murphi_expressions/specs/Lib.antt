@@ -2,3 +2,5 @@
 pub mod Says
 pub mod Levels
 pub mod Parts
+pub mod Ends
+pub mod Expression

@@ -2,7 +2,9 @@
 #![tactic(auto)]
 
 pub mod build;
+pub mod expression;
 pub mod names;
 pub mod reader;
+pub mod refusal;
 pub mod sign;
 pub mod step;

@@ -1,0 +1,13 @@
+pub mod Fronts
+pub mod TitleArms
+pub mod DeclArms
+pub mod DeclLoops
+pub mod StmtArms
+pub mod StmtLoops
+pub mod RoutineArms
+pub mod RoutineLoops
+pub mod ItemArms
+pub mod ItemLoops
+pub mod ProtocolArms
+pub mod ProtocolLoops
+pub mod Telling

@@ -1,0 +1,3 @@
+-- The words of the contracts of this crate.
+pub mod Parts
+pub mod Protocols
