@@ -1,0 +1,3 @@
+-- Lemmas.
+pub mod CountEquations
+pub mod CellLemmas

@@ -1,0 +1,3 @@
+-- What code gives of declarations.
+pub mod Declaring
+pub mod LeafLists
