@@ -15,3 +15,4 @@ pub mod Texts
 pub mod ShapeEquations
 pub mod JudgeEquations
 pub mod PlaceEquations
+pub mod PieceEquations

@@ -4,5 +4,6 @@
 
 pub mod judge;
 pub mod laws;
+pub mod piece;
 pub mod place;
 pub mod shape;
