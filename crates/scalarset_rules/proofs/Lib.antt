@@ -16,3 +16,6 @@ pub mod ShapeEquations
 pub mod JudgeEquations
 pub mod PlaceEquations
 pub mod PieceEquations
+pub mod TouchEquations
+pub mod LoopEquations
+pub mod Opening

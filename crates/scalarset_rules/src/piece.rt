@@ -29,7 +29,7 @@ pub(crate) enum Piece {
     },
 }
 
-fn touch(
+pub(crate) fn touch(
     alloc: Global,
     level: Level,
     stands: &[Stand],
@@ -44,7 +44,7 @@ fn touch(
     Ok(out)
 }
 
-fn with_call(
+pub(crate) fn with_call(
     alloc: Global,
     level: Level,
     stands: &[Stand],
@@ -65,7 +65,7 @@ fn with_call(
     Ok(out)
 }
 
-fn joined(first: Items<Piece>, second: Items<Piece>) -> Result<Items<Piece>, Memory>
+pub(crate) fn joined(first: Items<Piece>, second: Items<Piece>) -> Result<Items<Piece>, Memory>
     ensures { IfOk result (λ v. map seen_piece v ≡ map seen_piece first ++ map seen_piece second) }
 {
     let mut out = first;
