@@ -15,3 +15,7 @@ pub mod Texts
 pub mod ShapeEquations
 pub mod JudgeEquations
 pub mod PlaceEquations
+pub mod PieceEquations
+pub mod TouchEquations
+pub mod LoopEquations
+pub mod Opening

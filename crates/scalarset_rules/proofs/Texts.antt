@@ -193,19 +193,19 @@ abbrev pub LatestFit : Typed → List Routine → Type 0
 LatestFit T [] = Unit {0}
 LatestFit T (r ∷ earlier) = (stmt_fits (typing_routine T (reverse earlier) r) r.body ≡ true) × LatestFit T earlier
 
-get_last : {A : Type 0} (xs : List A) (x r : A) (k : ℕ) → slice_get (xs ++ x ∷ []) k ≡ Some r → k ≡ length xs → x ≡ r
+pub get_last : {A : Type 0} (xs : List A) (x r : A) (k : ℕ) → slice_get (xs ++ x ∷ []) k ≡ Some r → k ≡ length xs → x ≡ r
 get_last [] x r zero e same = some_same e
 get_last [] x r (suc k) e same = absurd (omega (arith, same))
 get_last (y ∷ xs) x r zero e same = absurd (omega (arith, same))
 get_last (y ∷ xs) x r (suc k) e same = get_last xs x r k e (omega (arith, same))
 
-get_before : {A : Type 0} (xs : List A) (x r : A) (k : ℕ) → slice_get (xs ++ x ∷ []) k ≡ Some r → (k ≡ length xs → ⊥) → slice_get xs k ≡ Some r
+pub get_before : {A : Type 0} (xs : List A) (x r : A) (k : ℕ) → slice_get (xs ++ x ∷ []) k ≡ Some r → (k ≡ length xs → ⊥) → slice_get xs k ≡ Some r
 get_before [] x r zero e other = absurd (other refl)
 get_before [] x r (suc k) e other = cc
 get_before (y ∷ xs) x r zero e other = e
 get_before (y ∷ xs) x r (suc k) e other = get_before xs x r k e (λ same. other (ap suc same))
 
-reversed : {A : Type 0} (x : A) (xs : List A) → reverse (x ∷ xs) ≡ reverse xs ++ x ∷ []
+pub reversed : {A : Type 0} (x : A) (xs : List A) → reverse (x ∷ xs) ≡ reverse xs ++ x ∷ []
 reversed x xs = reverse-append (x ∷ []) xs
 
 latest_down : (T : Typed) (e : ℕ) (types : Declared) → HasGlobals types T.globals → (rs : List Routine) → LatestFit T rs → OpenedDown e types (opened_in rs) (reverse rs)

@@ -1,8 +1,10 @@
 -- What a body reads, writes and calls, with no call opened: the list of its pieces. Opening each call gives what the
 -- opened body reads and writes. Code goes this way: first down the tree, and then into the routines.
-use Rattle.std.specs.Prelude.{ℕ, suc, Bool, true, false, List, [], ◌∷◌, ◌++◌, map, Option, None, Some}
+use Rattle.std.specs.Prelude.{ℕ, suc, Bool, true, false, List, [], ◌∷◌, ◌++◌, map, Option, None, Some, if◌then◌else◌}
 use Rattle.std.specs.List.{flat_map}
 use Rattle.murphi_ast.specs.declared.token.Span.{Span}
+use Rattle.murphi_typed.specs.declared.types.Simple.{Simple}
+use Rattle.murphi_typed.specs.Prefix.{is_over_nodes}
 use Rattle.murphi_typed.specs.declared.expr.Expr as x
 use Rattle.murphi_typed.specs.declared.expr.Expr.{Expr, end_of-Expr, more_of-Expr, Row_of-Link, end_of-Link, more_of-Link}
 use Rattle.murphi_typed.specs.declared.expr.Link.{Link}
@@ -17,7 +19,7 @@ use Rattle.murphi_typed.specs.declared.stmt.Stmt.{Stmt, Row_of-Stmt, end_of-Stmt
 use Rattle.murphi_typed.specs.declared.stmt.Arm.{Arm}
 use Rattle.murphi_typed.specs.declared.stmt.Case.{Case}
 use Rattle.murphi_typed.specs.Forms.{NotForm, MinusForm, CompareForm, ImpliesForm, ChoiceForm, QuantifiedForm}
-use Rattle.scalarset_rules.specs.Accesses.{Binder, Part, Field, Index, Stand, Scope, binding, mark, argument_stand, stands_of, Access, accessed, from_call, Opened}
+use Rattle.scalarset_rules.specs.Accesses.{Binder, Part, Field, Index, Stand, Scope, binding, mark, argument_stand, stands_of, Access, accessed, from_call, Opened, OpenedLoops, Loop, loop_from, next_binder}
 
 -- a designator that is read or written, or a call: the routine, what stands for its formals, and the place of its name
 pub data Piece : Type 0 where
@@ -78,6 +80,9 @@ unfoldable mutual
       Touch (accessed false scope place) ∷ index_pieces scope place
   one_argument_pieces scope (argument.Value body) = read_pieces scope body
   one_argument_pieces scope (argument.Place place) = index_pieces scope place
+
+abbrev pub touch_place : Bool → Scope → Designator → List Piece
+touch_place write scope place = Touch (accessed write scope place) ∷ index_pieces scope place
 
 abbrev pub read_place : Scope → Designator → List Piece
 read_place scope place = Touch (accessed false scope place) ∷ index_pieces scope place
@@ -168,3 +173,59 @@ abbrev pub list_cases : Scope → List Case → List Piece
 list_cases scope [] = []
 list_cases scope (first ∷ rest) =
     flat_map (read_pieces scope) first.labels ++ (list_pieces scope first.body ++ list_cases scope rest)
+
+-- Loops
+
+-- a `for` over nodes, with its variable and the pieces of its body, or a call of a procedure
+pub data LoopPiece : Type 0 where
+  Around : Binder → List Piece → LoopPiece
+  Within : ℕ → List Stand → Span → LoopPiece
+
+abbrev pub opened_loop : Opened → OpenedLoops → ℕ → LoopPiece → List Loop
+opened_loop opened inner depth (Around v pieces) =
+    record { variable = v; accesses = opened_pieces opened depth pieces } ∷ []
+opened_loop opened inner depth (Within k stands at) =
+    map (loop_from at) (inner k (record { depth = suc depth; bound = 0; stands = stands }))
+
+abbrev pub opened_loops : Opened → OpenedLoops → ℕ → List LoopPiece → List Loop
+opened_loops opened inner depth all = flat_map (opened_loop opened inner depth) all
+
+abbrev pub if_around : Simple → LoopPiece → List LoopPiece → List LoopPiece
+if_around over loop inner = if is_over_nodes over then loop ∷ inner else inner
+
+unfoldable mutual
+  pub loop_pieces : Scope → Stmt → List LoopPiece
+  loop_pieces scope (s.Block' _ body) = all_loop_pieces scope body
+  loop_pieces scope (s.Call k args at) = Within k (stands_of scope args) at ∷ []
+  loop_pieces scope (s.If' _ arms _ otherwise at) = arm_loop_pieces scope arms ++ all_loop_pieces scope otherwise
+  loop_pieces scope (s.Switch' on _ cases _ otherwise at) =
+      case_loop_pieces scope cases ++ all_loop_pieces scope otherwise
+  loop_pieces scope (s.For' over _ body at) =
+      if_around over (Around (next_binder scope) (all_pieces (binding scope) body))
+      (all_loop_pieces (binding scope) body)
+  loop_pieces scope _ = []
+
+  pub all_loop_pieces : {n : _} → Scope → Row_of-Stmt n → List LoopPiece
+  all_loop_pieces scope end_of-Stmt = []
+  all_loop_pieces scope (more_of-Stmt first rest) = loop_pieces scope first ++ all_loop_pieces scope rest
+
+  pub arm_loop_pieces : {n : _} → Scope → Row_of-Arm n → List LoopPiece
+  arm_loop_pieces scope end_of-Arm = []
+  arm_loop_pieces scope (more_of-Arm test _ body rest) = all_loop_pieces scope body ++ arm_loop_pieces scope rest
+
+  pub case_loop_pieces : {n : _} → Scope → Row_of-Case n → List LoopPiece
+  case_loop_pieces scope end_of-Case = []
+  case_loop_pieces scope (more_of-Case labels _ body rest) =
+      all_loop_pieces scope body ++ case_loop_pieces scope rest
+
+abbrev pub list_loops : Scope → List Stmt → List LoopPiece
+list_loops scope [] = []
+list_loops scope (first ∷ rest) = loop_pieces scope first ++ list_loops scope rest
+
+abbrev pub list_arm_loops : Scope → List Arm → List LoopPiece
+list_arm_loops scope [] = []
+list_arm_loops scope (first ∷ rest) = list_loops scope first.body ++ list_arm_loops scope rest
+
+abbrev pub list_case_loops : Scope → List Case → List LoopPiece
+list_case_loops scope [] = []
+list_case_loops scope (first ∷ rest) = list_loops scope first.body ++ list_case_loops scope rest

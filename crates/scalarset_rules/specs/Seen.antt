@@ -7,6 +7,11 @@ use Rattle.scalarset_rules.specs.declared.shape.Shape.{Shape as HeldShape}
 use Rattle.scalarset_rules.specs.declared.shape.Stand.{Stand as HeldStand}
 use Rattle.scalarset_rules.specs.declared.shape.Stand.TheVariants as stand
 use Rattle.scalarset_rules.specs.declared.shape.Access.{Access as HeldAccess}
+use Rattle.scalarset_rules.specs.declared.piece.Piece.{Piece as HeldPiece}
+use Rattle.scalarset_rules.specs.declared.piece.Piece.TheVariants as piece
+use Rattle.scalarset_rules.specs.declared.nested.LoopPiece.{LoopPiece as HeldLoop}
+use Rattle.scalarset_rules.specs.declared.nested.LoopPiece.TheVariants as loop
+use Rattle.scalarset_rules.specs.Pieces.{Piece, Touch, Enter, LoopPiece, Around, Within}
 use Rattle.scalarset_rules.specs.Accesses.{Binder, Shape, Stand, Valued, Placed, Scope, Access, Loop}
 use Rattle.scalarset_rules.specs.Rules.{Break, is_deeper, lacks, blame, rule_of, place_of_write, sooner, first_break}
 
@@ -58,3 +63,11 @@ first_of_writes v all (w ∷ ws) =
 -- a loop with these accesses
 abbrev pub loop_seen : Binder → List HeldAccess → Loop
 loop_seen v all = record { variable = v; accesses = map seen_access all }
+
+abbrev pub seen_piece : HeldPiece → Piece
+seen_piece (piece.Touch access) = Touch (seen_access access)
+seen_piece (piece.Enter k stands at) = Enter k (map seen_stand stands) at
+
+abbrev pub seen_loop : HeldLoop → LoopPiece
+seen_loop (loop.Around v pieces) = Around v (map seen_piece pieces)
+seen_loop (loop.Within k stands at) = Within k (map seen_stand stands) at

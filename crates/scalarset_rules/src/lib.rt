@@ -4,5 +4,8 @@
 
 pub mod judge;
 pub mod laws;
+pub mod nested;
+pub mod piece;
 pub mod place;
 pub mod shape;
+pub mod touch;
