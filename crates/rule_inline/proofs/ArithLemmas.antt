@@ -160,7 +160,7 @@ module _ (N : ℕ) (s : Cells) (fr : List ℕ) where
   abbrev pub Storable : Bool → Simple → Value → Type 0
   Storable plain into x = (is_value N (widened into) x ≡ true) ⊎ ((plain ≡ true) × (x ≡ v.Undefined))
 
-  may_is : (into : Simple) (x : Value) → same_value x v.Undefined ≡ false → may_hold N into x ≡ is_value N into x
+  pub may_is : (into : Simple) (x : Value) → same_value x v.Undefined ≡ false → may_hold N into x ≡ is_value N into x
   may_is into v.Undefined e = absurd_false (sym e)
   may_is into (v.Truth b) e = refl
   may_is into (v.Number z) e = refl

@@ -78,7 +78,7 @@ module _ (binds : PlacingBinds) (fit : ValuesFitInBodies) (s : Cells) (types : D
   abbrev Told : H → Outcome Value → Valued → Type 0
   Told h o e = IsTold h.scene.nodes s h.fr o e
 
-  typed : (h : H) (e : Expr) (u : Simple) → type_of h.scope e ≡ Some u → (w : Value) → result h e ≡ Got w → is_value h.scene.nodes u w ≡ true
+  pub typed : (h : H) (e : Expr) (u : Simple) → type_of h.scope e ≡ Some u → (w : Value) → result h e ≡ Got w → is_value h.scene.nodes u w ≡ true
   typed h e u is w was = fit types calls h.scope h.scene h.at h.cells h.sound.fits h.sound.fine h.sound.bound h.sound.results h.sound.kept e u w is was
 
   abbrev pub here_value : (h : H) (over : Simple) (w : Value) → is_value h.scene.nodes over w ≡ true → is_simple_type h.scope.kinds over ≡ true → H
@@ -107,7 +107,7 @@ module _ (binds : PlacingBinds) (fit : ValuesFitInBodies) (s : Cells) (types : D
     sited = site_under s h.fr h.site h.scene n h.sited;
     rep = rep_under h.scene.nodes s h.scene.depth h.fr h.T h.cells n h.rep }
 
-  read_value : (h : H) (spot : Spot) (p : Place) → Spots h.scene.nodes s h.scene.depth h.fr spot p → value_of h.scene.nodes s h.fr (read_of (length h.fr) h.T spot) ≡ cell_at h.cells p
+  pub read_value : (h : H) (spot : Spot) (p : Place) → Spots h.scene.nodes s h.scene.depth h.fr spot p → value_of h.scene.nodes s h.fr (read_of (length h.fr) h.T spot) ≡ cell_at h.cells p
   read_value h spot p spots =
       ap (λ xs. value_of h.scene.nodes s xs (read_of (length h.fr) h.T spot)) (sym (append_nothing h.fr))
       ∙ place_shows h.scene.nodes s binds h.scene.depth h.fr h.T h.cells spot p h.rep spots [] [] [] tt refl refl

@@ -54,10 +54,10 @@ module _ (N : ℕ) (s : Cells) where
       go false was = written (writes slot body.change) refl
 
   -- what holds after a return
-  abbrev Still : ℕ → List ℕ → Terms → Done → Type 0
+  abbrev pub Still : ℕ → List ℕ → Terms → Done → Type 0
   Still depth fr T body = AllHold N s fr body.demands × SameTerms depth fr T body.change.now
 
-  turns_left : (depth : ℕ) (fr : List ℕ) (body : Value → Terms → Done) → ((x : Value) (U : Terms) → is_true N s fr (U Leaving) ≡ true → Still depth fr U (body x U)) → (xs : List Value) (T : Terms) → is_true N s fr (T Leaving) ≡ true → Still depth fr T (turns body xs T)
+  pub turns_left : (depth : ℕ) (fr : List ℕ) (body : Value → Terms → Done) → ((x : Value) (U : Terms) → is_true N s fr (U Leaving) ≡ true → Still depth fr U (body x U)) → (xs : List Value) (T : Terms) → is_true N s fr (T Leaving) ≡ true → Still depth fr T (turns body xs T)
   turns_left depth fr body each [] T left = (tt, λ slot ns scope long. refl)
   turns_left depth fr body each (x ∷ xs) T left =
       let (first, same) = each x T left in

@@ -15,3 +15,4 @@ pub mod ExpressionLaw
 pub mod ChangeLemmas
 pub mod LeftLemmas
 pub mod EndLemmas
+pub mod StatementLemmas

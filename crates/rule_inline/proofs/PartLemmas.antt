@@ -60,7 +60,7 @@ use Rattle.rule_inline.proofs.QuantifierLemmas.{given_twice, tells_before, tells
 
 -- Types of parts
 
-simple_found : (o : Option AnyType) (s : Simple) → simple_part o ≡ Some s → o ≡ Some (type.Simple s)
+pub simple_found : (o : Option AnyType) (s : Simple) → simple_part o ≡ Some s → o ≡ Some (type.Simple s)
 simple_found None s e = not_some e
 simple_found (Some (type.Simple u)) s e = ap (λ w. Some (type.Simple w)) (some_one e)
 simple_found (Some (type.Record' _ fields)) s e = not_some e
