@@ -16,3 +16,4 @@ pub mod ChangeLemmas
 pub mod LeftLemmas
 pub mod EndLemmas
 pub mod StatementLemmas
+pub mod BranchLemmas

@@ -114,7 +114,7 @@ checked_next N s at (Some u) (Got (Returned d (Some w))) c e = go (is_value N u 
     go false e = cc
 
 -- one part of a body and what follows it
-then_told : (N : ℕ) (s : Cells) (depth : ℕ) (fr : List ℕ) (at : Span) (res : Option Simple) (o : Outcome Ending) (R : Store → Outcome Ending) (a : Done) (next : Terms → Done)
+pub then_told : (N : ℕ) (s : Cells) (depth : ℕ) (fr : List ℕ) (at : Span) (res : Option Simple) (o : Outcome Ending) (R : Store → Outcome Ending) (a : Done) (next : Terms → Done)
   → Tells N s fr (given o (checked N s at res)) a.demands (EndsWith N s depth fr res a.change)
   → ((c : Store) → o ≡ Got (Next c) → Rep N s depth fr a.change.now c → is_true N s fr (a.change.now Leaving) ≡ false → Tells N s fr (given (R c) (checked N s at res)) ((next a.change.now).demands) (EndsWith N s depth fr res (next a.change.now).change))
   → (is_true N s fr (a.change.now Leaving) ≡ true → AllHold N s fr ((next a.change.now).demands) × SameTerms N s depth fr a.change.now ((next a.change.now).change.now))
@@ -155,7 +155,7 @@ module _ (binds : PlacingBinds) (fit : ValuesFitInBodies) (keep : BodiesKeepType
       (λ left. Rep b.scene.nodes s b.scene.depth b.fr ((tcalls k (site_at b) b.T gifts).change.now) left.cells)
 
   module _ (functions : (h : Here s types (calls_of latest) (reverse latest)) → FunctionTells s types (calls_of latest) (reverse latest) tcalls h) (procedures : (b : B) → ProcedureTells b) (unwritten : CallsUnwritten tcalls) where
-    value_told : (b : B) (at : Span) (e : Expr) (u : Simple) → type_of b.scope e ≡ Some u → IsTold b.scene.nodes s b.fr (worked calls b.scene at b.cells e) (valued_of tcalls (site_at b) b.T e)
+    pub value_told : (b : B) (at : Span) (e : Expr) (u : Simple) → type_of b.scope e ≡ Some u → IsTold b.scene.nodes s b.fr (worked calls b.scene at b.cells e) (valued_of tcalls (site_at b) b.T e)
     value_told b at e u is = tells_value binds fit s types calls (reverse latest) tcalls functions e (here b at) u is
 
     typed_value : (b : B) (at : Span) (e : Expr) (u : Simple) → type_of b.scope e ≡ Some u → (w : Value) → worked calls b.scene at b.cells e ≡ Got w → is_value b.scene.nodes u w ≡ true
@@ -165,7 +165,7 @@ module _ (binds : PlacingBinds) (fit : ValuesFitInBodies) (keep : BodiesKeepType
     place_told b at place U is = tells_place binds fit s types calls (reverse latest) tcalls functions place (here b at) U is
 
     -- a statement that goes on
-    goes : (b : B) (at : Span) (o : Outcome Ending) (change : Change) (qs : List Demand) → Tells b.scene.nodes s b.fr o qs (GoesOn b.scene.nodes s b.scene.depth b.fr change) → Follows b at o (record { change = change; demands = reached (site_at b) b.T qs })
+    pub goes : (b : B) (at : Span) (o : Outcome Ending) (change : Change) (qs : List Demand) → Tells b.scene.nodes s b.fr o qs (GoesOn b.scene.nodes s b.scene.depth b.fr change) → Follows b at o (record { change = change; demands = reached (site_at b) b.T qs })
     goes b at o change qs told =
         tells_next b.scene.nodes s b.scene.depth b.fr at b.site.result change (reached (site_at b) b.T qs) o
         (tells_unless b.scene.nodes s b.fr (b.T Leaving) qs o (GoesOn b.scene.nodes s b.scene.depth b.fr change) b.staying told)
@@ -183,7 +183,7 @@ module _ (binds : PlacingBinds) (fit : ValuesFitInBodies) (keep : BodiesKeepType
         (tells_stored b.scene.nodes s b.fr at plain into e w is fits)
         (λ y is'. goes_written b.scene.nodes s b.scene.depth b.fr b.T b.cells spot p (only_term (length b.fr) e) (only y) b.rep b.staying spots (only_shows b.scene.nodes s b.fr e y is'))
 
-    assign_told : (b : B) (at : Span) (to : Designator) (into : Simple) (body : Expr) → is_cell_of into (place_type b.scope to) ≡ true → is_of into (type_of b.scope body) ≡ true → Follows b at (given (place_of calls b.scene (at_of to) b.cells to) (λ p. given (worked calls b.scene (at_of to) b.cells body) (λ w. given (stored b.scene.nodes (at_of to) into w) (with_value_at b.cells p)))) (stored_done (site_at b) b.T (placed_of tcalls (site_at b) b.T to) into (valued_of tcalls (site_at b) b.T body))
+    pub assign_told : (b : B) (at : Span) (to : Designator) (into : Simple) (body : Expr) → is_cell_of into (place_type b.scope to) ≡ true → is_of into (type_of b.scope body) ≡ true → Follows b at (given (place_of calls b.scene (at_of to) b.cells to) (λ p. given (worked calls b.scene (at_of to) b.cells body) (λ w. given (stored b.scene.nodes (at_of to) into w) (with_value_at b.cells p)))) (stored_done (site_at b) b.T (placed_of tcalls (site_at b) b.T to) into (valued_of tcalls (site_at b) b.T body))
     assign_told b at to into body cell fits =
         let (u, is) = cell_simple into (place_type b.scope to) cell in
         let found : type_of b.scope body ≡ Some (widened into) = of_type into (type_of b.scope body) fits in
@@ -192,7 +192,7 @@ module _ (binds : PlacingBinds) (fit : ValuesFitInBodies) (keep : BodiesKeepType
         (λ p was spots. tells_given b.scene.nodes s b.fr _ _ (worked calls b.scene (at_of to) b.cells body) _ _ _ (value_told b (at_of to) body (widened into) found)
         (λ w was' value. stored_told b (at_of to) (placed_of tcalls (site_at b) b.T to).spot p into false (valued_of tcalls (site_at b) b.T body).term w spots value (inl (typed_value b (at_of to) body (widened into) found w was')))))
 
-    copy_told : (b : B) (at : Span) (to : Designator) (into : Simple) (from : Designator) → is_cell_of into (place_type b.scope to) ≡ true → holds_values_of into (place_type b.scope from) ≡ true → Follows b at (given (place_of calls b.scene (at_of to) b.cells to) (λ p. given (place_of calls b.scene (at_of to) b.cells from) (λ q. given (stored b.scene.nodes (at_of to) into (cell_at b.cells q)) (with_value_at b.cells p)))) (copied (site_at b) b.T (placed_of tcalls (site_at b) b.T to) into (placed_of tcalls (site_at b) b.T from))
+    pub copy_told : (b : B) (at : Span) (to : Designator) (into : Simple) (from : Designator) → is_cell_of into (place_type b.scope to) ≡ true → holds_values_of into (place_type b.scope from) ≡ true → Follows b at (given (place_of calls b.scene (at_of to) b.cells to) (λ p. given (place_of calls b.scene (at_of to) b.cells from) (λ q. given (stored b.scene.nodes (at_of to) into (cell_at b.cells q)) (with_value_at b.cells p)))) (copied (site_at b) b.T (placed_of tcalls (site_at b) b.T to) into (placed_of tcalls (site_at b) b.T from))
     copy_told b at to into from cell fits =
         let (u, is) = cell_simple into (place_type b.scope to) cell in
         let wide : option_map widened (simple_part (place_type b.scope from)) ≡ Some (widened into) = of_type into (option_map widened (simple_part (place_type b.scope from))) fits in
@@ -204,12 +204,12 @@ module _ (binds : PlacingBinds) (fit : ValuesFitInBodies) (keep : BodiesKeepType
         (read_value binds fit s types calls (reverse latest) tcalls functions (here b (at_of to)) (placed_of tcalls (site_at b) b.T from).spot q others)
         (cell_storable binds fit s types calls (reverse latest) tcalls functions (here b (at_of to)) from q into was' wide))))
 
-    alike_types : (o p : Option AnyType) → are_alike o p ≡ true → (U : AnyType) × (V : AnyType) × (o ≡ Some U) × (p ≡ Some V)
+    pub alike_types : (o p : Option AnyType) → are_alike o p ≡ true → (U : AnyType) × (V : AnyType) × (o ≡ Some U) × (p ≡ Some V)
     alike_types (Some U) (Some V) e = (U, V, refl, refl)
     alike_types None p e = absurd_false e
     alike_types (Some U) None e = absurd_false e
 
-    copy_all_told : (b : B) (at : Span) (to from : Designator) → are_alike (place_type b.scope to) (place_type b.scope from) ≡ true → Follows b at (given (place_of calls b.scene (at_of to) b.cells to) (λ p. given (place_of calls b.scene (at_of to) b.cells from) (λ q. Got (Next (store_written b.cells p (contents_at b.cells q)))))) (copied_all (site_at b) b.T (placed_of tcalls (site_at b) b.T to) (placed_of tcalls (site_at b) b.T from))
+    pub copy_all_told : (b : B) (at : Span) (to from : Designator) → are_alike (place_type b.scope to) (place_type b.scope from) ≡ true → Follows b at (given (place_of calls b.scene (at_of to) b.cells to) (λ p. given (place_of calls b.scene (at_of to) b.cells from) (λ q. Got (Next (store_written b.cells p (contents_at b.cells q)))))) (copied_all (site_at b) b.T (placed_of tcalls (site_at b) b.T to) (placed_of tcalls (site_at b) b.T from))
     copy_all_told b at to from alike =
         let (U, V, to_is, from_is) = alike_types (place_type b.scope to) (place_type b.scope from) alike in
         goes b at _ (written (length b.fr) b.T (placed_of tcalls (site_at b) b.T to).spot (shown_at (length b.fr) b.T (placed_of tcalls (site_at b) b.T from).spot)) _
@@ -218,34 +218,34 @@ module _ (binds : PlacingBinds) (fit : ValuesFitInBodies) (keep : BodiesKeepType
         (λ q others. goes_written b.scene.nodes s b.scene.depth b.fr b.T b.cells (placed_of tcalls (site_at b) b.T to).spot p (shown_at (length b.fr) b.T (placed_of tcalls (site_at b) b.T from).spot) (contents_at b.cells q) b.rep b.staying spots
         (place_shows b.scene.nodes s binds b.scene.depth b.fr b.T b.cells (placed_of tcalls (site_at b) b.T from).spot q b.rep others))))
 
-    set_told : (b : B) (at from : Span) (place : Designator) (U : AnyType) (new : Shown) (contents : Contents) → place_type b.scope place ≡ Some U → Shows b.scene.nodes s b.fr new contents → Follows b at (given (place_of calls b.scene from b.cells place) (λ p. Got (Next (store_written b.cells p contents)))) (set (site_at b) b.T (placed_of tcalls (site_at b) b.T place) new)
+    pub set_told : (b : B) (at from : Span) (place : Designator) (U : AnyType) (new : Shown) (contents : Contents) → place_type b.scope place ≡ Some U → Shows b.scene.nodes s b.fr new contents → Follows b at (given (place_of calls b.scene from b.cells place) (λ p. Got (Next (store_written b.cells p contents)))) (set (site_at b) b.T (placed_of tcalls (site_at b) b.T place) new)
     set_told b at from place U new contents is shows =
         goes b at _ (written (length b.fr) b.T (placed_of tcalls (site_at b) b.T place).spot new) _
         (tells_then b.scene.nodes s b.fr _ (place_of calls b.scene from b.cells place) (λ p. Next (store_written b.cells p contents)) _ _ (place_told b from place U is)
         (λ p spots. goes_written b.scene.nodes s b.scene.depth b.fr b.T b.cells (placed_of tcalls (site_at b) b.T place).spot p new contents b.rep b.staying spots shows))
 
-    cleared_shows : (b : B) (of : AnyType) → Shows b.scene.nodes s b.fr (cleared of) (store_cleared of)
+    pub cleared_shows : (b : B) (of : AnyType) → Shows b.scene.nodes s b.fr (cleared of) (store_cleared of)
     cleared_shows b of path key more none long nodes = go (leaf_at of path)
       where
         go : (o : Option Simple) → value_of b.scene.nodes s (b.fr ++ more) (option_map_or (λ leaf. t.Known (cleared_value leaf)) o undefined) ≡ option_map_or cleared_value o v.Undefined
         go None = value-Known b.scene.nodes s (b.fr ++ more) v.Undefined
         go (Some leaf) = value-Known b.scene.nodes s (b.fr ++ more) (cleared_value leaf)
 
-    typed_place : (of : AnyType) (o : Option AnyType) → option_map_or (same_type of) o false ≡ true → (U : AnyType) × (o ≡ Some U)
+    pub typed_place : (of : AnyType) (o : Option AnyType) → option_map_or (same_type of) o false ≡ true → (U : AnyType) × (o ≡ Some U)
     typed_place of None e = absurd_false e
     typed_place of (Some U) e = (U, refl)
 
-    some_place : (o : Option AnyType) → is_some o ≡ true → (U : AnyType) × (o ≡ Some U)
+    pub some_place : (o : Option AnyType) → is_some o ≡ true → (U : AnyType) × (o ≡ Some U)
     some_place None e = absurd_false e
     some_place (Some U) e = (U, refl)
 
-    stays : (b : B) → GoesOn b.scene.nodes s b.scene.depth b.fr (unchanged b.T) (Next b.cells)
+    pub stays : (b : B) → GoesOn b.scene.nodes s b.scene.depth b.fr (unchanged b.T) (Next b.cells)
     stays b = (b.cells, refl, b.rep, b.staying)
 
-    failed_told : (b : B) (at from : Span) → Follows b at (Fault from) (failed (site_at b) b.T)
+    pub failed_told : (b : B) (at from : Span) → Follows b at (Fault from) (failed (site_at b) b.T)
     failed_told b at from = goes b at (Fault from) (unchanged b.T) _ (one_fails b.scene.nodes s b.fr (truth_term false) (ap truth (value-Known b.scene.nodes s b.fr (v.Truth false))))
 
-    assert_told : (b : B) (at from : Span) (test : Expr) → is_of simple.Truth (type_of b.scope test) ≡ true → Follows b at (given (worked calls b.scene from b.cells test) (λ w. if truth w then Got (Next b.cells) else Fault from)) (asserted (site_at b) b.T (valued_of tcalls (site_at b) b.T test))
+    pub assert_told : (b : B) (at from : Span) (test : Expr) → is_of simple.Truth (type_of b.scope test) ≡ true → Follows b at (given (worked calls b.scene from b.cells test) (λ w. if truth w then Got (Next b.cells) else Fault from)) (asserted (site_at b) b.T (valued_of tcalls (site_at b) b.T test))
     assert_told b at from test fits =
         let found : type_of b.scope test ≡ Some simple.Truth = of_type simple.Truth (type_of b.scope test) fits in
         goes b at _ (unchanged b.T) _
@@ -256,14 +256,14 @@ module _ (binds : PlacingBinds) (fit : ValuesFitInBodies) (keep : BodiesKeepType
         go w is true was = (ap truth is ∙ was, stays b)
         go w is false was = ap truth is ∙ was
 
-    leave_told : (b : B) (at : Span) → b.site.result ≡ None → Follows b at (Got (Returned b.cells None)) (leave b.T)
+    pub leave_told : (b : B) (at : Span) → b.site.result ≡ None → Follows b at (Got (Returned b.cells None)) (leave b.T)
     leave_told b at none = (tt, (b.rep, ap truth (value-Known b.scene.nodes s b.fr (v.Truth true)), go b.site.result none))
       where
         go : (o : Option Simple) → o ≡ None → ResultIs b.scene.nodes s b.fr o None (b.T Result)
         go None e = tt
         go (Some u) e = cc
 
-    return_told : (b : B) (at from : Span) (body : Expr) (u : Simple) → b.site.result ≡ Some u → is_of u (type_of b.scope body) ≡ true → Follows b at (given (worked calls b.scene from b.cells body) (λ w. Got (Returned b.cells (Some w)))) (returned (site_at b) b.T (valued_of tcalls (site_at b) b.T body))
+    pub return_told : (b : B) (at from : Span) (body : Expr) (u : Simple) → b.site.result ≡ Some u → is_of u (type_of b.scope body) ≡ true → Follows b at (given (worked calls b.scene from b.cells body) (λ w. Got (Returned b.cells (Some w)))) (returned (site_at b) b.T (valued_of tcalls (site_at b) b.T body))
     return_told b at from body u res fits = go b.site.result res
       where
         found : type_of b.scope body ≡ Some (widened u)
