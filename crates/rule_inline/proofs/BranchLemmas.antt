@@ -91,7 +91,7 @@ module _ (binds : PlacingBinds) (fit : ValuesFitInBodies) (keep : BodiesKeepType
   Follow b at o body = Follows binds fit keep results s P latest types tcalls b at o body
 
   -- a call of a procedure
-  call_told : (b : BB) (at from : Span) (k : ℕ) (args : Arguments) (r : Routine) → slice_get b.scope.routines k ≡ Some r → r.result ≡ None → arguments_fit b.scope r.formals args ≡ true → Follow b at (given (arguments_of calls b.scene from b.cells args) (λ gs. given (calls k b.scene from gs b.cells) (λ left. Got (Next left.cells)))) (with_arguments tcalls k (site_at b) b.T (argued_of tcalls (site_at b) b.T args))
+  pub call_told : (b : BB) (at from : Span) (k : ℕ) (args : Arguments) (r : Routine) → slice_get b.scope.routines k ≡ Some r → r.result ≡ None → arguments_fit b.scope r.formals args ≡ true → Follow b at (given (arguments_of calls b.scene from b.cells args) (λ gs. given (calls k b.scene from gs b.cells) (λ left. Got (Next left.cells)))) (with_arguments tcalls k (site_at b) b.T (argued_of tcalls (site_at b) b.T args))
   call_told b at from k args r found none fits =
       goes binds fit keep results s P latest types tcalls functions procedures unwritten b at _ (came_back (site_at b) b.T (argued_of tcalls (site_at b) b.T args) (tcalls k (site_at b) b.T (argued_of tcalls (site_at b) b.T args).given)).change _
       (tells_given b.scene.nodes s b.fr ((argued_of tcalls (site_at b) b.T args).demands) ((tcalls k (site_at b) b.T (argued_of tcalls (site_at b) b.T args).given).demands) (arguments_of calls b.scene from b.cells args) _ _ _
@@ -105,12 +105,12 @@ module _ (binds : PlacingBinds) (fit : ValuesFitInBodies) (keep : BodiesKeepType
   abbrev BranchTold : BB → Span → Outcome Ending → Branching → Type 0
   BranchTold b at o br = Tells b.scene.nodes s b.fr (given o (checked b.scene.nodes s at b.site.result)) br.demands (BranchEnds b.scene.nodes s b.scene.depth b.fr b.site.result b.T br)
 
-  last_told : (b : BB) (at : Span) (o : Outcome Ending) (body : Done) → Unwritten b.site.depth b.T body.change → Follow b at o body → BranchTold b at o (last_branch body)
+  pub last_told : (b : BB) (at : Span) (o : Outcome Ending) (body : Done) → Unwritten b.site.depth b.T body.change → Follow b at o body → BranchTold b at o (last_branch body)
   last_told b at o body same told =
       tells_map b.scene.nodes s b.fr body.demands (given o (checked b.scene.nodes s at b.site.result)) _ _ told
       (λ e ends. (body.change, ends, subst (λ d. Unwritten d b.T body.change) b.sited.depth same, (λ slot none. none), λ slot ns scope long. refl))
 
-  one_told : {X : Type 0} (b : BB) (at : Span) (asked : Outcome X) (holds : X → Bool) (test : Valued) (o : Outcome Ending) (body : Done) (p : Outcome Ending) (rest : Branching)
+  pub one_told : {X : Type 0} (b : BB) (at : Span) (asked : Outcome X) (holds : X → Bool) (test : Valued) (o : Outcome Ending) (body : Done) (p : Outcome Ending) (rest : Branching)
     → Tells b.scene.nodes s b.fr asked test.demands (λ x. is_true b.scene.nodes s b.fr test.term ≡ holds x)
     → Unwritten b.site.depth b.T body.change → Follow b at o body → BranchTold b at p rest
     → BranchTold b at (given asked (λ x. if holds x then o else p)) (one_branch (site_at b) b.T test body rest)
@@ -141,7 +141,7 @@ module _ (binds : PlacingBinds) (fit : ValuesFitInBodies) (keep : BodiesKeepType
           (λ e facts. (let (ch, ends, unwritten', first, chain) = facts in (ch, ends, unwritten', (λ slot none. first slot ((none_of_both (body.change.first slot) (first_of_branches slot rest.branches rest.otherwise) none).1)), λ slot ns scope long. chain_is false was slot ns long ∙ chain slot ns scope long)))))
 
   -- labels
-  one_of_is : (N : ℕ) (fr : List ℕ) (tests : List Term) → is_true N s fr (one_of_labels tests) ≡ list_any (is_true N s fr) tests
+  pub one_of_is : (N : ℕ) (fr : List ℕ) (tests : List Term) → is_true N s fr (one_of_labels tests) ≡ list_any (is_true N s fr) tests
   one_of_is N fr [] = ap truth (value-Or N s fr [])
   one_of_is N fr (test ∷ []) = sym (nothing_more (is_true N s fr test))
     where
@@ -150,7 +150,7 @@ module _ (binds : PlacingBinds) (fit : ValuesFitInBodies) (keep : BodiesKeepType
       nothing_more false = refl
   one_of_is N fr (test ∷ other ∷ tests) = ap truth (value-Or N s fr (test ∷ other ∷ tests))
 
-  labels_told : (b : BB) (from : Span) (on : Term) (w : Value) (labels : List Expr) → value_of b.scene.nodes s b.fr on ≡ w → (u : Option Simple) → labels_fit b.scope u labels ≡ true → Tells b.scene.nodes s b.fr (is_among (worked calls b.scene from b.cells) w labels) ((labels_of (valued_of tcalls (site_at b) b.T) (site_at b) on labels).demands) (λ found. list_any (is_true b.scene.nodes s b.fr) ((labels_of (valued_of tcalls (site_at b) b.T) (site_at b) on labels).tests) ≡ found)
+  pub labels_told : (b : BB) (from : Span) (on : Term) (w : Value) (labels : List Expr) → value_of b.scene.nodes s b.fr on ≡ w → (u : Option Simple) → labels_fit b.scope u labels ≡ true → Tells b.scene.nodes s b.fr (is_among (worked calls b.scene from b.cells) w labels) ((labels_of (valued_of tcalls (site_at b) b.T) (site_at b) on labels).demands) (λ found. list_any (is_true b.scene.nodes s b.fr) ((labels_of (valued_of tcalls (site_at b) b.T) (site_at b) on labels).tests) ≡ found)
   labels_told b from on w [] is u fits = (tt, refl)
   labels_told b from on w (label ∷ labels) is u fits =
       let (first, rest) = and_parts (comparable compare.Equal u (type_of b.scope label)) (labels_fit b.scope u labels) fits in
@@ -185,7 +185,7 @@ module _ (binds : PlacingBinds) (fit : ValuesFitInBodies) (keep : BodiesKeepType
     abbrev G : Value → Terms → Done
     G x T = all_done tcalls (with_value (site_at b0) x) T body
 
-    turns_told : (xs : List Value) → EachValue (λ x. is_value b0.scene.nodes over x ≡ true) xs → (T : Terms) (c : Store) → AreKept b0.scene.nodes types c → Rep b0.scene.nodes s b0.scene.depth b0.fr T c → is_true b0.scene.nodes s b0.fr (T Leaving) ≡ false → Tells b0.scene.nodes s b0.fr (given (turns F xs c) (checked b0.scene.nodes s at b0.site.result)) ((term_turns G xs T).demands) (EndsWith b0.scene.nodes s b0.scene.depth b0.fr b0.site.result (term_turns G xs T).change)
+    pub turns_told : (xs : List Value) → EachValue (λ x. is_value b0.scene.nodes over x ≡ true) xs → (T : Terms) (c : Store) → AreKept b0.scene.nodes types c → Rep b0.scene.nodes s b0.scene.depth b0.fr T c → is_true b0.scene.nodes s b0.fr (T Leaving) ≡ false → Tells b0.scene.nodes s b0.fr (given (turns F xs c) (checked b0.scene.nodes s at b0.site.result)) ((term_turns G xs T).demands) (EndsWith b0.scene.nodes s b0.scene.depth b0.fr b0.site.result (term_turns G xs T).change)
     turns_told [] values T c kept rep staying = (tt, (rep, staying))
     turns_told (x ∷ xs) (is, values) T c kept rep staying =
         then_told b0.scene.nodes s b0.scene.depth b0.fr at b0.site.result (F x c) (turns F xs) (G x T) (term_turns G xs) (each T c kept rep staying x is)

@@ -17,3 +17,4 @@ pub mod LeftLemmas
 pub mod EndLemmas
 pub mod StatementLemmas
 pub mod BranchLemmas
+pub mod StatementLaw
