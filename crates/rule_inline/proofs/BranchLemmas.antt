@@ -74,14 +74,14 @@ none_of_both : {A : Type 0} (x y : Option A) → or_else x y ≡ None → (x ≡
 none_of_both None y e = (refl, e)
 none_of_both (Some w) y e = cc
 
-module _ (binds : PlacingBinds) (fit : ValuesFitInBodies) (keep : BodiesKeepTypes) (results : FunctionsGiveResults) (s : Cells) (P : Typed) (latest : List Routine) (types : Declared) (tcalls : TermCalls) (functions : (h : Here s types (calls_of latest) (reverse latest)) → FunctionTells s types (calls_of latest) (reverse latest) tcalls h) (procedures : (b : Body s P latest types) → ProcedureTells binds fit keep results s P latest types tcalls b) (unwritten : CallsUnwritten tcalls) where
+module _ (binds : PlacingBinds) (fit : ValuesFitInBodies) (keep : BodiesKeepTypes) (results : FunctionsGiveResults) (s : Cells) (P : Typed) (latest : List Routine) (types : Declared) (tcalls : TermCalls) (functions : (h : Here s P latest types) → FunctionTells s P latest types tcalls h) (procedures : (b : Body s P latest types) → ProcedureTells binds fit keep results s P latest types tcalls b) (unwritten : CallsUnwritten tcalls) where
   abbrev BB : Type 0
   BB = Body s P latest types
 
   abbrev calls : Calls
   calls = calls_of latest
 
-  abbrev here : BB → Span → Here s types (calls_of latest) (reverse latest)
+  abbrev here : BB → Span → Here s P latest types
   here b at = here_of results s P latest types b at
 
   abbrev site_at : BB → Site
@@ -95,7 +95,7 @@ module _ (binds : PlacingBinds) (fit : ValuesFitInBodies) (keep : BodiesKeepType
   call_told b at from k args r found none fits =
       goes binds fit keep results s P latest types tcalls functions procedures unwritten b at _ (came_back (site_at b) b.T (argued_of tcalls (site_at b) b.T args) (tcalls k (site_at b) b.T (argued_of tcalls (site_at b) b.T args).given)).change _
       (tells_given b.scene.nodes s b.fr ((argued_of tcalls (site_at b) b.T args).demands) ((tcalls k (site_at b) b.T (argued_of tcalls (site_at b) b.T args).given).demands) (arguments_of calls b.scene from b.cells args) _ _ _
-      (tells_arguments binds fit s types calls (reverse latest) tcalls functions args (here b from) r.formals fits)
+      (tells_arguments binds fit s P latest types tcalls functions args (here b from) r.formals fits)
       (λ gs was ok. tells_then b.scene.nodes s b.fr ((tcalls k (site_at b) b.T (argued_of tcalls (site_at b) b.T args).given).demands) (calls k b.scene from gs b.cells) (λ left. Next left.cells) _ _
       (procedures b k r args from gs (argued_of tcalls (site_at b) b.T args).given (ap (λ rs. slice_get rs k) (sym b.typed.routines) ∙ found) none fits was ok)
       (λ left rep. (left.cells, refl, rep, b.staying))))

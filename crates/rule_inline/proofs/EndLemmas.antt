@@ -31,7 +31,7 @@ use Rattle.rule_inline.proofs.TermLemmas.{value-If, is_true, lifted_by, lifted_e
 use Rattle.rule_inline.proofs.Outcome.{Tells}
 use Rattle.rule_inline.proofs.PlaceLemmas.{reaches, Rep}
 use Rattle.rule_inline.proofs.WriteLemmas.{Shows, Spots, written_rep}
-use Rattle.rule_inline.proofs.SceneLemmas.{Sound, sound_binding, rep_under, at_frame, inner, Sited, site_under, site_value}
+use Rattle.rule_inline.proofs.SceneLemmas.{Sound, typed_binding, rep_under, at_frame, inner, Sited, site_under, site_value}
 use Rattle.rule_inline.proofs.PartLemmas.{Here}
 use Rattle.rule_inline.proofs.ChangeLemmas.{InScope, Unwritten}
 use Rattle.rule_inline.proofs.LeftLemmas.{some_or_none, SameTerms, same_leaving}
@@ -55,7 +55,7 @@ pub record Body (s : Cells) (P : Typed) (latest : List Routine) (types : Declare
   pub staying : is_true scene.nodes s fr (T Leaving) ≡ false
   pub exits : site.result ≡ result_of scope.exit
 
-abbrev pub here_of : (results : FunctionsGiveResults) (s : Cells) (P : Typed) (latest : List Routine) (types : Declared) → Body s P latest types → Span → Here s types (calls_of latest) (reverse latest)
+abbrev pub here_of : (results : FunctionsGiveResults) (s : Cells) (P : Typed) (latest : List Routine) (types : Declared) → Body s P latest types → Span → Here s P latest types
 here_of results s P latest types b at = record {
   scope = b.scope;
   scene = b.scene;
@@ -64,6 +64,7 @@ here_of results s P latest types b at = record {
   T = b.T;
   cells = b.cells;
   at = at;
+  typed = b.typed;
   sound = record {
     fits = b.typed.fits;
     fine = b.typed.fine;
@@ -74,22 +75,6 @@ here_of results s P latest types b at = record {
     known = b.typed.routines };
   sited = b.sited;
   rep = b.rep }
-
-pub typed_binding : (P : Typed) (latest : List Routine) (types : Declared) (calls : Calls) (scope : Scope) (scene : Scene) (cells : Store) (over : Simple) (x : Value) → Sound types calls (reverse latest) scope scene cells → IsTypedBody P latest types scope scene cells → is_value scene.nodes over x ≡ true → is_simple_type scope.kinds over ≡ true → IsTypedBody P latest types (binding scope over) (with_bound scene x) cells
-typed_binding P latest types calls scope scene cells over x sound typed is fine =
-    let more = sound_binding types calls (reverse latest) scope scene cells over x sound is fine in
-    record {
-      kinds = typed.kinds;
-      globals = typed.globals;
-      routines = typed.routines;
-      known = typed.known;
-      fits = more.fits;
-      fine = more.fine;
-      bound = more.bound;
-      lengths = more.lengths;
-      shallow = typed.shallow;
-      declared = typed.declared;
-      kept = typed.kept }
 
 pub typed_after : (P : Typed) (latest : List Routine) (types : Declared) (scope : Scope) (scene : Scene) (cells next : Store) → IsTypedBody P latest types scope scene cells → AreKept scene.nodes types next → IsTypedBody P latest types scope scene next
 typed_after P latest types scope scene cells next typed kept = record {

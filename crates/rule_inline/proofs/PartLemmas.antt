@@ -1,6 +1,6 @@
 -- Expressions, designators and arguments: where one faults a demand of it is false for some nodes, else its term has
 -- its value. What routines do is given.
-use Rattle.std.proofs.Common.{◌≡◌, ℕ, zero, suc, ◌+◌, ◌<◌, Bool, true, false, not, ◌&&◌, ◌||◌, cond, List, [], ◌∷◌, ◌++◌, length, map, Option, None, Some, ◌⊎◌, inl, inr, refl, sym, ap, ◌∙◌, subst, append_assoc, append-nil}
+use Rattle.std.proofs.Common.{◌≡◌, ℕ, zero, suc, ◌+◌, ◌<◌, Bool, true, false, not, ◌&&◌, ◌||◌, cond, List, [], ◌∷◌, ◌++◌, length, map, reverse, Option, None, Some, ◌⊎◌, inl, inr, refl, sym, ap, ◌∙◌, subst, append_assoc, append-nil}
 use Rattle.std.specs.Prelude.{pos, slice_get, option_map, option_and_then, is_some, if◌then◌else◌, unwrap_or}
 use Rattle.std.specs.List.{list_all, list_any}
 use Rattle.std.specs.Option.{option_map_or}
@@ -40,10 +40,11 @@ use Rattle.murphi_typed.specs.Values.{is_value, values}
 use Rattle.murphi_typed.specs.Store.{Place, Contents, Cells as Store, cell_at, contents_at, only}
 use Rattle.murphi_typed.specs.Outcome.{Outcome, Got, Fault, given, or_fault}
 use Rattle.murphi_typed.specs.Expressions.{Given, Filled, Standing, Scene, Left, Calls, as_truth, calculated, joined, compared, defined, over_all, with_bound, root_place, under, row_path, fitting, value_of as worked, chain_value as worked_chain, place_of, indices_of as worked_indices, arguments_of, row_arguments, argument_of}
-use Rattle.murphi_typed.specs.Execution.{simple_type}
+use Rattle.murphi_typed.specs.Execution.{simple_type, calls_of}
 use Rattle.murphi_typed.specs.Prefix.{is_over_nodes}
-use Rattle.murphi_typed.specs.WellTyped.{Scope, binding as scope_binding, numbers, widened, is_simple_type, root_type, simple_part, field_part, item_part, is_of, only_if, operand_type, comparable, first_of, rest_of, is_compound, place_fits, given_value, given_compound, given_place, type_of, chain_type, place_type, selected_type, arguments_fit, row_fits, argument_fits}
-use Rattle.murphi_typed.specs.Keeping.{Declared}
+use Rattle.murphi_typed.specs.WellTyped.{Scope, binding as scope_binding, numbers, widened, is_simple_type, root_type, simple_part, field_part, item_part, is_of, only_if, operand_type, comparable, first_of, rest_of, is_compound, may_write, root_of, place_fits, given_value, given_compound, given_place, type_of, chain_type, place_type, selected_type, arguments_fit, row_fits, argument_fits}
+use Rattle.murphi_typed.specs.Keeping.{Declared, IsTypedBody}
+use Rattle.murphi_typed.specs.declared.protocol.Typed.{Typed}
 use Rattle.murphi_typed.specs.Laws.{ValuesFitInBodies}
 use Rattle.rule_inline.specs.Demands.{Demand, demand, under_test, binding}
 use Rattle.rule_inline.specs.Tables.{Leaving, Result, Terms, under_variable, Index, Spot, Shown, shown_at, read_of, only_term}
@@ -130,7 +131,7 @@ comparable_types compare.Greater left right e = numbers_of left right e
 comparable_types compare.GreaterEqual left right e = numbers_of left right e
 
 -- a body at a place of its run, with the terms that represent it
-pub record Here (s : Cells) (types : Declared) (calls : Calls) (routines : List Routine) : Type 0 where
+pub record Here (s : Cells) (P : Typed) (latest : List Routine) (types : Declared) : Type 0 where
   pub scope : Scope
   pub scene : Scene
   pub fr : List ℕ
@@ -138,7 +139,8 @@ pub record Here (s : Cells) (types : Declared) (calls : Calls) (routines : List 
   pub T : Terms
   pub cells : Store
   pub at : Span
-  pub sound : Sound types calls routines scope scene cells
+  pub typed : IsTypedBody P latest types scope scene cells
+  pub sound : Sound types (calls_of latest) (reverse latest) scope scene cells
   pub sited : Sited s fr site scene
   pub rep : Rep scene.nodes s scene.depth fr T cells
 
@@ -153,19 +155,18 @@ ArgIs N s depth fr formal (Placing spot) (Filled contents) = ⊥
 ArgIs N s depth fr formal (Placing spot) (Standing place) = Spots N s depth fr spot place
 
 abbrev pub ArgsAre : ℕ → Cells → ℕ → List ℕ → List DeclaredFormal → List Gift → List Given → Type 0
-ArgsAre N s depth fr formals [] [] = Unit {0}
-ArgsAre N s depth fr formals [] (g ∷ gs) = ⊥
-ArgsAre N s depth fr formals (f ∷ fs) [] = ⊥
-ArgsAre N s depth fr formals (f ∷ fs) (g ∷ gs) = ArgIs N s depth fr (first_of formals) f g × ArgsAre N s depth fr (rest_of formals) fs gs
+ArgsAre N s depth fr [] [] [] = Unit {0}
+ArgsAre N s depth fr (d ∷ ds) (f ∷ fs) (g ∷ gs) = ArgIs N s depth fr (Some d) f g × ArgsAre N s depth fr ds fs gs
+ArgsAre N s depth fr _ _ _ = ⊥
 
 -- what is asked of a call of a function with arguments that were worked out
-abbrev pub FunctionTells : (s : Cells) (types : Declared) (calls : Calls) (routines : List Routine) (tcalls : TermCalls) → Here s types calls routines → Type 0
-FunctionTells s types calls routines tcalls h =
+abbrev pub FunctionTells : (s : Cells) (P : Typed) (latest : List Routine) (types : Declared) (tcalls : TermCalls) → Here s P latest types → Type 0
+FunctionTells s P latest types tcalls h =
     (k : ℕ) (r : Routine) (u : Simple) (args : Arguments) (gs : List Given) (gifts : List Gift)
-    → slice_get routines k ≡ Some r → r.result ≡ Some u → arguments_fit h.scope r.formals args ≡ true
-    → arguments_of calls h.scene h.at h.cells args ≡ Got gs
+    → slice_get (reverse latest) k ≡ Some r → r.result ≡ Some u → arguments_fit h.scope r.formals args ≡ true
+    → arguments_of (calls_of latest) h.scene h.at h.cells args ≡ Got gs
     → ArgsAre h.scene.nodes s h.scene.depth h.fr r.formals gifts gs
-    → Tells h.scene.nodes s h.fr (calls k h.scene h.at gs h.cells) ((tcalls k (at_frame h.fr h.site) h.T gifts).demands ++ demand ((tcalls k (at_frame h.fr h.site) h.T gifts).change.now Leaving) ∷ [])
+    → Tells h.scene.nodes s h.fr (calls_of latest k h.scene h.at gs h.cells) ((tcalls k (at_frame h.fr h.site) h.T gifts).demands ++ demand ((tcalls k (at_frame h.fr h.site) h.T gifts).change.now Leaving) ∷ [])
     (λ left. (w : Value) × (left.result ≡ Some w) × (value_of h.scene.nodes s h.fr ((tcalls k (at_frame h.fr h.site) h.T gifts).change.now Result) ≡ w))
 
 pub operand_widened : (by : ChainOp) → widened (operand_type by) ≡ operand_type by
@@ -210,6 +211,14 @@ place_typed (Some f) None e = absurd_false (sym (go f.by_place) ∙ e)
     go : (b : Bool) → (b && false) ≡ false
     go true = refl
     go false = refl
+
+-- no argument fits where no formal is
+pub none_fits : {R : Type 0} (scope : Scope) (first : argument.Argument) → argument_fits scope None first ≡ true → R
+unfolding type_of
+none_fits scope (argument.Copy place) e = absurd_false e
+none_fits scope (argument.CopyAll place) e = absurd_false e
+none_fits scope (argument.Value body) e = absurd_false e
+none_fits scope (argument.Place place) e = let (writable, wrong) = and_parts (may_write scope (root_of place)) false e in absurd_false wrong
 
 -- what is given to a formal by value of simple type is of that type, as far as bounds go
 into_part : (U : AnyType) (into : Simple) → simple_type U ≡ Some into → simple_part (Some U) ≡ Some into

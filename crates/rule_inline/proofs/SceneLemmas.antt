@@ -1,5 +1,5 @@
 -- What is known of a body that runs, and of the site at which it is taken as terms.
-use Rattle.std.proofs.Common.{◌≡◌, ℕ, zero, suc, ◌+◌, ◌-◌, ◌<◌, ◌≤◌, Bool, true, false, cond, List, [], ◌∷◌, ◌++◌, length, map, Option, None, Some, refl, sym, ap, ◌∙◌, subst, append_assoc, arith}
+use Rattle.std.proofs.Common.{◌≡◌, ℕ, zero, suc, ◌+◌, ◌-◌, ◌<◌, ◌≤◌, Bool, true, false, cond, List, [], ◌∷◌, ◌++◌, length, map, reverse, Option, None, Some, refl, sym, ap, ◌∙◌, subst, append_assoc, arith}
 use Rattle.std.specs.Prelude.{nat_lt, nat_le, nat_eq, slice_get, unwrap_or}
 use Rattle.std.specs.Option.{option_map_or}
 use Rattle.term_core.specs.declared.value.Value.{Value}
@@ -18,7 +18,8 @@ use Rattle.murphi_typed.specs.Values.{is_value}
 use Rattle.murphi_typed.specs.Store.{Owner, Global, Local, Formal, Place, Cells as Store}
 use Rattle.murphi_typed.specs.Expressions.{Given, Filled, Standing, Scene, Calls, with_bound, whole, stood_for, root_place}
 use Rattle.murphi_typed.specs.WellTyped.{Scope, binding, root_type, is_simple_type}
-use Rattle.murphi_typed.specs.Keeping.{Declared, AreKept, SceneFits, RootsFine, BoundFits, ResultsFit, HasType}
+use Rattle.murphi_typed.specs.Keeping.{Declared, AreKept, SceneFits, RootsFine, BoundFits, ResultsFit, HasType, IsTypedBody}
+use Rattle.murphi_typed.specs.declared.protocol.Typed.{Typed}
 use Rattle.rule_inline.specs.Tables.{Slot, Family, Terms, under_variable, Index, Axis, Among, Spot, lifted_index, lifted_spot}
 use Rattle.rule_inline.specs.Parts.{Given as Gift, Filled as Filling, Standing as Placing, Site, lifted_given, with_value, with_variable, undefined, bound_term, whole_spot, root_spot, stood_for as stood_in}
 use Rattle.rule_inline.proofs.TypeLemmas.{not_some, some_one}
@@ -78,6 +79,22 @@ sound_binding types calls routines scope scene cells over x sound is fine = reco
   results = sound.results;
   kept = sound.kept;
   known = sound.known }
+
+pub typed_binding : (P : Typed) (latest : List Routine) (types : Declared) (calls : Calls) (scope : Scope) (scene : Scene) (cells : Store) (over : Simple) (x : Value) → Sound types calls (reverse latest) scope scene cells → IsTypedBody P latest types scope scene cells → is_value scene.nodes over x ≡ true → is_simple_type scope.kinds over ≡ true → IsTypedBody P latest types (binding scope over) (with_bound scene x) cells
+typed_binding P latest types calls scope scene cells over x sound typed is fine =
+    let more = sound_binding types calls (reverse latest) scope scene cells over x sound is fine in
+    record {
+      kinds = typed.kinds;
+      globals = typed.globals;
+      routines = typed.routines;
+      known = typed.known;
+      fits = more.fits;
+      fine = more.fine;
+      bound = more.bound;
+      lengths = more.lengths;
+      shallow = typed.shallow;
+      declared = typed.declared;
+      kept = typed.kept }
 
 -- the terms of bound variables are constants, and variables of the frame
 abbrev pub IsBound : ℕ → Term → Type 0

@@ -58,14 +58,14 @@ use Rattle.rule_inline.proofs.PlaceLemmas.{NoNodes, Rep, IndexIs, Leads}
 use Rattle.rule_inline.proofs.WriteLemmas.{Shows, only_shows, Spots, place_shows}
 use Rattle.rule_inline.proofs.TypeLemmas.{not_some, some_one, only_parts, simples_one, of_type, not_undefined, defined_is, index_is, EachValue, are_values, values_fixed, index_leads}
 use Rattle.rule_inline.proofs.ArithLemmas.{number_value, tells_calculated, Storable, tells_stored, may_is}
-use Rattle.rule_inline.proofs.SceneLemmas.{Sound, sound_binding, GiftIs, GiftsAre, bound_there, rep_under, at_frame, inner, Sited, site_under, site_value, root_spots}
+use Rattle.rule_inline.proofs.SceneLemmas.{Sound, sound_binding, typed_binding, GiftIs, GiftsAre, bound_there, rep_under, at_frame, inner, Sited, site_under, site_value, root_spots}
 use Rattle.rule_inline.proofs.QuantifierLemmas.{given_twice, tells_before, tells_after, tells_nodes, quantified, tells_values}
 use Rattle.rule_inline.proofs.PartLemmas.{Here, simple_found, ArgIs, ArgsAre, FunctionTells, widened_found, found_simple, bound_found, none_selected, none_chain, rooted, equal_types, comparable_types, operand_widened, row_more, value_typed, compound_typed, place_typed, given_into, given_no_simple, each_map, leads_joined, tells_got, IsTold, IsTyped, told_not, told_minus, told_compared, told_implied, told_choice, told_chain, defined_told, index_told}
 use Rattle.murphi_typed.specs.Execution.{simple_type, Ending, Next, Returned, cells_after, then_on, turns, at_of, stored, with_value as with_value_at, cleared as store_cleared, is_among, run, run_all, run_arms, run_cases, calls_of}
 use Rattle.rule_inline.proofs.ExpressionLaw.{typed, read_value, cell_storable, tells_value, tells_place, tells_arguments}
 use Rattle.rule_inline.proofs.ChangeLemmas.{InScope, Unwritten, CallsUnwritten, stmt_unwritten, row_unwritten}
 use Rattle.rule_inline.proofs.LeftLemmas.{SameTerms, same_leaving, turns_left, row_left}
-use Rattle.rule_inline.proofs.EndLemmas.{result_of, Body, here_of, typed_after, typed_binding, further, body_value, body_node, ResultIs, EndsWith, ends_same, checked, GoesOn, tells_next, goes_written, taken_same, BranchEnds, chosen_ends}
+use Rattle.rule_inline.proofs.EndLemmas.{result_of, Body, here_of, typed_after, further, body_value, body_node, ResultIs, EndsWith, ends_same, checked, GoesOn, tells_next, goes_written, taken_same, BranchEnds, chosen_ends}
 use Rattle.term_core.specs.Substitution.{lifted}
 use Rattle.rule_inline.proofs.TermLemmas.{lifted_by}
 use Rattle.rule_inline.proofs.StatementLemmas.{stmt_loops, row_loops, arm_loops, case_loops, then_told, Follows, ProcedureTells, value_told, goes, assign_told, copy_told, copy_all_told, set_told, cleared_shows, typed_place, some_place, alike_types, stays, failed_told, assert_told, leave_told, return_told}
@@ -79,7 +79,7 @@ LoopsTell binds fit keep results s P latest types tcalls Q =
     → ((k : ℕ) (is : is_node b.scene.nodes k ≡ true) → Follows binds fit keep results s P latest types tcalls (body_node results s P latest types b k is) at (run_all (calls_of latest) (with_bound b.scene (v.Node k)) b.cells body) (all_done tcalls (at_frame (b.fr ++ k ∷ []) (inner b.fr b.site)) (under_variable (length b.fr) b.T) body))
     → Follows binds fit keep results s P latest types tcalls b at (turns (λ x c. run_all (calls_of latest) (with_bound b.scene x) c body) (values b.scene.nodes simple.Node) b.cells) (for_nodes (at_frame b.fr b.site) b.T (all_done tcalls (with_variable (at_frame b.fr b.site)) (under_variable (length b.fr) b.T) body))
 
-module _ (binds : PlacingBinds) (fit : ValuesFitInBodies) (keep : BodiesKeepTypes) (results : FunctionsGiveResults) (s : Cells) (P : Typed) (latest : List Routine) (types : Declared) (tcalls : TermCalls) (functions : (h : Here s types (calls_of latest) (reverse latest)) → FunctionTells s types (calls_of latest) (reverse latest) tcalls h) (procedures : (b : Body s P latest types) → ProcedureTells binds fit keep results s P latest types tcalls b) (unwritten : CallsUnwritten tcalls) (Q : (n : _) → Site → Row_of-Stmt n → Type 0) (loop_tells : LoopsTell binds fit keep results s P latest types tcalls Q) where
+module _ (binds : PlacingBinds) (fit : ValuesFitInBodies) (keep : BodiesKeepTypes) (results : FunctionsGiveResults) (s : Cells) (P : Typed) (latest : List Routine) (types : Declared) (tcalls : TermCalls) (functions : (h : Here s P latest types) → FunctionTells s P latest types tcalls h) (procedures : (b : Body s P latest types) → ProcedureTells binds fit keep results s P latest types tcalls b) (unwritten : CallsUnwritten tcalls) (Q : (n : _) → Site → Row_of-Stmt n → Type 0) (loop_tells : LoopsTell binds fit keep results s P latest types tcalls Q) where
   abbrev BB : Type 0
   BB = Body s P latest types
 

@@ -134,7 +134,7 @@ module _ (binds : PlacingBinds) (fit : ValuesFitInBodies) (keep : BodiesKeepType
   abbrev calls : Calls
   calls = calls_of latest
 
-  abbrev here : B → Span → Here s types (calls_of latest) (reverse latest)
+  abbrev here : B → Span → Here s P latest types
   here b at = here_of results s P latest types b at
 
   abbrev site_at : B → Site
@@ -154,15 +154,15 @@ module _ (binds : PlacingBinds) (fit : ValuesFitInBodies) (keep : BodiesKeepType
       → Tells b.scene.nodes s b.fr (calls k b.scene at gs b.cells) ((tcalls k (site_at b) b.T gifts).demands)
       (λ left. Rep b.scene.nodes s b.scene.depth b.fr ((tcalls k (site_at b) b.T gifts).change.now) left.cells)
 
-  module _ (functions : (h : Here s types (calls_of latest) (reverse latest)) → FunctionTells s types (calls_of latest) (reverse latest) tcalls h) (procedures : (b : B) → ProcedureTells b) (unwritten : CallsUnwritten tcalls) where
+  module _ (functions : (h : Here s P latest types) → FunctionTells s P latest types tcalls h) (procedures : (b : B) → ProcedureTells b) (unwritten : CallsUnwritten tcalls) where
     pub value_told : (b : B) (at : Span) (e : Expr) (u : Simple) → type_of b.scope e ≡ Some u → IsTold b.scene.nodes s b.fr (worked calls b.scene at b.cells e) (valued_of tcalls (site_at b) b.T e)
-    value_told b at e u is = tells_value binds fit s types calls (reverse latest) tcalls functions e (here b at) u is
+    value_told b at e u is = tells_value binds fit s P latest types tcalls functions e (here b at) u is
 
     typed_value : (b : B) (at : Span) (e : Expr) (u : Simple) → type_of b.scope e ≡ Some u → (w : Value) → worked calls b.scene at b.cells e ≡ Got w → is_value b.scene.nodes u w ≡ true
-    typed_value b at e u is w was = typed binds fit s types calls (reverse latest) tcalls functions (here b at) e u is w was
+    typed_value b at e u is w was = typed binds fit s P latest types tcalls functions (here b at) e u is w was
 
     place_told : (b : B) (at : Span) (place : Designator) (U : AnyType) → place_type b.scope place ≡ Some U → Tells b.scene.nodes s b.fr (place_of calls b.scene at b.cells place) ((placed_of tcalls (site_at b) b.T place).demands) (λ p. Spots b.scene.nodes s b.scene.depth b.fr (placed_of tcalls (site_at b) b.T place).spot p)
-    place_told b at place U is = tells_place binds fit s types calls (reverse latest) tcalls functions place (here b at) U is
+    place_told b at place U is = tells_place binds fit s P latest types tcalls functions place (here b at) U is
 
     -- a statement that goes on
     pub goes : (b : B) (at : Span) (o : Outcome Ending) (change : Change) (qs : List Demand) → Tells b.scene.nodes s b.fr o qs (GoesOn b.scene.nodes s b.scene.depth b.fr change) → Follows b at o (record { change = change; demands = reached (site_at b) b.T qs })
@@ -201,8 +201,8 @@ module _ (binds : PlacingBinds) (fit : ValuesFitInBodies) (keep : BodiesKeepType
         (tells_given b.scene.nodes s b.fr _ _ (place_of calls b.scene (at_of to) b.cells to) _ _ _ (place_told b (at_of to) to (type.Simple u) is)
         (λ p was spots. tells_given b.scene.nodes s b.fr _ _ (place_of calls b.scene (at_of to) b.cells from) _ _ _ (place_told b (at_of to) from (type.Simple w) from_is)
         (λ q was' others. stored_told b (at_of to) (placed_of tcalls (site_at b) b.T to).spot p into true (read_of (length b.fr) b.T (placed_of tcalls (site_at b) b.T from).spot) (cell_at b.cells q) spots
-        (read_value binds fit s types calls (reverse latest) tcalls functions (here b (at_of to)) (placed_of tcalls (site_at b) b.T from).spot q others)
-        (cell_storable binds fit s types calls (reverse latest) tcalls functions (here b (at_of to)) from q into was' wide))))
+        (read_value binds fit s P latest types tcalls functions (here b (at_of to)) (placed_of tcalls (site_at b) b.T from).spot q others)
+        (cell_storable binds fit s P latest types tcalls functions (here b (at_of to)) from q into was' wide))))
 
     pub alike_types : (o p : Option AnyType) → are_alike o p ≡ true → (U : AnyType) × (V : AnyType) × (o ≡ Some U) × (p ≡ Some V)
     alike_types (Some U) (Some V) e = (U, V, refl, refl)
