@@ -74,7 +74,7 @@ none_of_both : {A : Type 0} (x y : Option A) → or_else x y ≡ None → (x ≡
 none_of_both None y e = (refl, e)
 none_of_both (Some w) y e = cc
 
-module _ (binds : PlacingBinds) (fit : ValuesFitInBodies) (keep : BodiesKeepTypes) (results : FunctionsGiveResults) (s : Cells) (P : Typed) (latest : List Routine) (types : Declared) (tcalls : TermCalls) (functions : (h : Here s P latest types) → FunctionTells s P latest types tcalls h) (procedures : (b : Body s P latest types) → ProcedureTells binds fit keep results s P latest types tcalls b) (unwritten : CallsUnwritten tcalls) where
+module _ (binds : PlacingBinds) (fit : ValuesFitInBodies) (keep : BodiesKeepTypes) (results : FunctionsGiveResults) (s : Cells) (P : Typed) (latest : List Routine) (types : Declared) (tcalls : TermCalls) (allowed : ℕ → Site → List Gift → Type 0) (functions : (h : Here s P latest types) → FunctionTells s P latest types tcalls h) (procedures : (b : Body s P latest types) → ProcedureTells binds fit keep results s P latest types tcalls allowed b) (unwritten : CallsUnwritten tcalls) where
   abbrev BB : Type 0
   BB = Body s P latest types
 
@@ -88,16 +88,16 @@ module _ (binds : PlacingBinds) (fit : ValuesFitInBodies) (keep : BodiesKeepType
   site_at b = at_frame b.fr b.site
 
   abbrev pub Follow : BB → Span → Outcome Ending → Done → Type 0
-  Follow b at o body = Follows binds fit keep results s P latest types tcalls b at o body
+  Follow b at o body = Follows binds fit keep results s P latest types tcalls allowed b at o body
 
   -- a call of a procedure
-  pub call_told : (b : BB) (at from : Span) (k : ℕ) (args : Arguments) (r : Routine) → slice_get b.scope.routines k ≡ Some r → r.result ≡ None → arguments_fit b.scope r.formals args ≡ true → Follow b at (given (arguments_of calls b.scene from b.cells args) (λ gs. given (calls k b.scene from gs b.cells) (λ left. Got (Next left.cells)))) (with_arguments tcalls k (site_at b) b.T (argued_of tcalls (site_at b) b.T args))
-  call_told b at from k args r found none fits =
-      goes binds fit keep results s P latest types tcalls functions procedures unwritten b at _ (came_back (site_at b) b.T (argued_of tcalls (site_at b) b.T args) (tcalls k (site_at b) b.T (argued_of tcalls (site_at b) b.T args).given)).change _
+  pub call_told : (b : BB) (at from : Span) (k : ℕ) (args : Arguments) (r : Routine) → slice_get b.scope.routines k ≡ Some r → r.result ≡ None → arguments_fit b.scope r.formals args ≡ true → allowed k (site_at b) (argued_of tcalls (site_at b) b.T args).given → Follow b at (given (arguments_of calls b.scene from b.cells args) (λ gs. given (calls k b.scene from gs b.cells) (λ left. Got (Next left.cells)))) (with_arguments tcalls k (site_at b) b.T (argued_of tcalls (site_at b) b.T args))
+  call_told b at from k args r found none fits is_fine =
+      goes binds fit keep results s P latest types tcalls allowed functions procedures unwritten b at _ (came_back (site_at b) b.T (argued_of tcalls (site_at b) b.T args) (tcalls k (site_at b) b.T (argued_of tcalls (site_at b) b.T args).given)).change _
       (tells_given b.scene.nodes s b.fr ((argued_of tcalls (site_at b) b.T args).demands) ((tcalls k (site_at b) b.T (argued_of tcalls (site_at b) b.T args).given).demands) (arguments_of calls b.scene from b.cells args) _ _ _
       (tells_arguments binds fit s P latest types tcalls functions args (here b from) r.formals fits)
       (λ gs was ok. tells_then b.scene.nodes s b.fr ((tcalls k (site_at b) b.T (argued_of tcalls (site_at b) b.T args).given).demands) (calls k b.scene from gs b.cells) (λ left. Next left.cells) _ _
-      (procedures b k r args from gs (argued_of tcalls (site_at b) b.T args).given (ap (λ rs. slice_get rs k) (sym b.typed.routines) ∙ found) none fits was ok)
+      (procedures b k r args from gs (argued_of tcalls (site_at b) b.T args).given (ap (λ rs. slice_get rs k) (sym b.typed.routines) ∙ found) none fits was ok is_fine)
       (λ left rep. (left.cells, refl, rep, b.staying))))
 
   -- Branches
@@ -156,7 +156,7 @@ module _ (binds : PlacingBinds) (fit : ValuesFitInBodies) (keep : BodiesKeepType
       let (first, rest) = and_parts (comparable compare.Equal u (type_of b.scope label)) (labels_fit b.scope u labels) fits in
       let (p, q, left, right) = comparable_types compare.Equal u (type_of b.scope label) first in
       tells_given b.scene.nodes s b.fr ((valued_of tcalls (site_at b) b.T label).demands) (under_test (length b.fr) (t.Not test) more.demands) (worked calls b.scene from b.cells label) _ _ _
-      (value_told binds fit keep results s P latest types tcalls functions procedures unwritten b from label q right)
+      (value_told binds fit keep results s P latest types tcalls allowed functions procedures unwritten b from label q right)
       (λ y was value. go y value (same_value w y) refl (labels_told b from on w labels is u rest))
     where
       test : Term
@@ -176,7 +176,7 @@ module _ (binds : PlacingBinds) (fit : ValuesFitInBodies) (keep : BodiesKeepType
 
   -- Loops over another type
 
-  module _ {n : _} (at : Span) (over : Simple) (body : Row_of-Stmt n) (b0 : BB) (fine : is_simple_type b0.scope.kinds over ≡ true)
+  module _ {n : _} (at : Span) (over : Simple) (body : Row_of-Stmt n) (b0 : BB) (over_is : is_simple_type b0.scope.kinds over ≡ true)
     (each : (T : Terms) (c : Store) (kept : AreKept b0.scene.nodes types c) (rep : Rep b0.scene.nodes s b0.scene.depth b0.fr T c) (staying : is_true b0.scene.nodes s b0.fr (T Leaving) ≡ false) (x : Value) (is : is_value b0.scene.nodes over x ≡ true) → Tells b0.scene.nodes s b0.fr (given (run_all calls (with_bound b0.scene x) c body) (checked b0.scene.nodes s at b0.site.result)) ((all_done tcalls (with_value (site_at b0) x) T body).demands) (EndsWith b0.scene.nodes s b0.scene.depth b0.fr b0.site.result (all_done tcalls (with_value (site_at b0) x) T body).change))
     (keeps : (T : Terms) (c : Store) (kept : AreKept b0.scene.nodes types c) (x : Value) (is : is_value b0.scene.nodes over x ≡ true) (next : Store) → run_all calls (with_bound b0.scene x) c body ≡ Got (Next next) → AreKept b0.scene.nodes types next) where
     abbrev F : Value → Store → Outcome Ending

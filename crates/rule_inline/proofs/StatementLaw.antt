@@ -72,14 +72,14 @@ use Rattle.rule_inline.proofs.StatementLemmas.{stmt_loops, row_loops, arm_loops,
 use Rattle.rule_inline.proofs.BranchLemmas.{call_told, last_told, one_told, one_of_is, labels_told, turns_told}
 
 -- what is asked of a loop over nodes, given what its body does once
-abbrev pub LoopsTell : (binds : PlacingBinds) (fit : ValuesFitInBodies) (keep : BodiesKeepTypes) (results : FunctionsGiveResults) (s : Cells) (P : Typed) (latest : List Routine) (types : Declared) (tcalls : TermCalls) → ((n : _) → Site → Row_of-Stmt n → Type 0) → Type 0
-LoopsTell binds fit keep results s P latest types tcalls Q =
+abbrev pub LoopsTell : (binds : PlacingBinds) (fit : ValuesFitInBodies) (keep : BodiesKeepTypes) (results : FunctionsGiveResults) (s : Cells) (P : Typed) (latest : List Routine) (types : Declared) (tcalls : TermCalls) (allowed : ℕ → Site → List Gift → Type 0) → ((n : _) → Site → Row_of-Stmt n → Type 0) → Type 0
+LoopsTell binds fit keep results s P latest types tcalls allowed Q =
     (b : Body s P latest types) (at : Span) (n : _) (body : Row_of-Stmt n)
     → body_fits (scope_binding b.scope simple.Node) body ≡ true → Q n (at_frame b.fr b.site) body
-    → ((k : ℕ) (is : is_node b.scene.nodes k ≡ true) → Follows binds fit keep results s P latest types tcalls (body_node results s P latest types b k is) at (run_all (calls_of latest) (with_bound b.scene (v.Node k)) b.cells body) (all_done tcalls (at_frame (b.fr ++ k ∷ []) (inner b.fr b.site)) (under_variable (length b.fr) b.T) body))
-    → Follows binds fit keep results s P latest types tcalls b at (turns (λ x c. run_all (calls_of latest) (with_bound b.scene x) c body) (values b.scene.nodes simple.Node) b.cells) (for_nodes (at_frame b.fr b.site) b.T (all_done tcalls (with_variable (at_frame b.fr b.site)) (under_variable (length b.fr) b.T) body))
+    → ((k : ℕ) (is : is_node b.scene.nodes k ≡ true) → Follows binds fit keep results s P latest types tcalls allowed (body_node results s P latest types b k is) at (run_all (calls_of latest) (with_bound b.scene (v.Node k)) b.cells body) (all_done tcalls (at_frame (b.fr ++ k ∷ []) (inner b.fr b.site)) (under_variable (length b.fr) b.T) body))
+    → Follows binds fit keep results s P latest types tcalls allowed b at (turns (λ x c. run_all (calls_of latest) (with_bound b.scene x) c body) (values b.scene.nodes simple.Node) b.cells) (for_nodes (at_frame b.fr b.site) b.T (all_done tcalls (with_variable (at_frame b.fr b.site)) (under_variable (length b.fr) b.T) body))
 
-module _ (binds : PlacingBinds) (fit : ValuesFitInBodies) (keep : BodiesKeepTypes) (results : FunctionsGiveResults) (s : Cells) (P : Typed) (latest : List Routine) (types : Declared) (tcalls : TermCalls) (functions : (h : Here s P latest types) → FunctionTells s P latest types tcalls h) (procedures : (b : Body s P latest types) → ProcedureTells binds fit keep results s P latest types tcalls b) (unwritten : CallsUnwritten tcalls) (Q : (n : _) → Site → Row_of-Stmt n → Type 0) (loop_tells : LoopsTell binds fit keep results s P latest types tcalls Q) where
+module _ (binds : PlacingBinds) (fit : ValuesFitInBodies) (keep : BodiesKeepTypes) (results : FunctionsGiveResults) (s : Cells) (P : Typed) (latest : List Routine) (types : Declared) (tcalls : TermCalls) (allowed : ℕ → Site → List Gift → Type 0) (functions : (h : Here s P latest types) → FunctionTells s P latest types tcalls h) (procedures : (b : Body s P latest types) → ProcedureTells binds fit keep results s P latest types tcalls allowed b) (unwritten : CallsUnwritten tcalls) (Q : (n : _) → Site → Row_of-Stmt n → Type 0) (loop_tells : LoopsTell binds fit keep results s P latest types tcalls allowed Q) where
   abbrev BB : Type 0
   BB = Body s P latest types
 
@@ -90,7 +90,7 @@ module _ (binds : PlacingBinds) (fit : ValuesFitInBodies) (keep : BodiesKeepType
   site_at b = at_frame b.fr b.site
 
   abbrev pub Follow : BB → Span → Outcome Ending → Done → Type 0
-  Follow b at o body = Follows binds fit keep results s P latest types tcalls b at o body
+  Follow b at o body = Follows binds fit keep results s P latest types tcalls allowed b at o body
 
   kept_after : (b : BB) (stmt : Stmt) (next : Store) → stmt_fits b.scope stmt ≡ true → run calls b.scene b.cells stmt ≡ Got (Next next) → AreKept b.scene.nodes types next
   kept_after b stmt next fits was = keep P latest types b.scope b.scene b.cells stmt (Next next) b.typed fits was
@@ -156,16 +156,16 @@ module _ (binds : PlacingBinds) (fit : ValuesFitInBodies) (keep : BodiesKeepType
   truth_told : (b : BB) (from : Span) (test : Expr) → is_of simple.Truth (type_of b.scope test) ≡ true → Tells b.scene.nodes s b.fr (worked calls b.scene from b.cells test) ((valued_of tcalls (site_at b) b.T test).demands) (λ w. is_true b.scene.nodes s b.fr (valued_of tcalls (site_at b) b.T test).term ≡ truth w)
   truth_told b from test fits =
       tells_map b.scene.nodes s b.fr ((valued_of tcalls (site_at b) b.T test).demands) (worked calls b.scene from b.cells test) _ _
-      (value_told binds fit keep results s P latest types tcalls functions procedures unwritten b from test simple.Truth (of_type simple.Truth (type_of b.scope test) fits)) (λ w is. ap truth is)
+      (value_told binds fit keep results s P latest types tcalls allowed functions procedures unwritten b from test simple.Truth (of_type simple.Truth (type_of b.scope test) fits)) (λ w is. ap truth is)
 
   among_told : (b : BB) (from : Span) (on : Term) (w : Value) (labels : List Expr) → value_of b.scene.nodes s b.fr on ≡ w → (u : Option Simple) → labels_fit b.scope u labels ≡ true → Tells b.scene.nodes s b.fr (is_among (worked calls b.scene from b.cells) w labels) ((among (labels_of (valued_of tcalls (site_at b) b.T) (site_at b) on labels)).demands) (λ found. is_true b.scene.nodes s b.fr (among (labels_of (valued_of tcalls (site_at b) b.T) (site_at b) on labels)).term ≡ found)
   among_told b from on w labels is u fits =
       tells_map b.scene.nodes s b.fr _ (is_among (worked calls b.scene from b.cells) w labels) _ _
-      (labels_told binds fit keep results s P latest types tcalls functions procedures unwritten b from on w labels is u fits)
-      (λ found e. one_of_is binds fit keep results s P latest types tcalls functions procedures unwritten b.scene.nodes b.fr ((labels_of (valued_of tcalls (site_at b) b.T) (site_at b) on labels).tests) ∙ e)
+      (labels_told binds fit keep results s P latest types tcalls allowed functions procedures unwritten b from on w labels is u fits)
+      (λ found e. one_of_is binds fit keep results s P latest types tcalls allowed functions procedures unwritten b.scene.nodes b.fr ((labels_of (valued_of tcalls (site_at b) b.T) (site_at b) on labels).tests) ∙ e)
 
-  node_loops : {n : _} (b : BB) (k : ℕ) (body : Row_of-Stmt n) → row_loops Q (with_variable (site_at b)) body → row_loops Q (at_frame (b.fr ++ k ∷ []) (inner b.fr b.site)) body
-  node_loops b k body loops = subst (λ m. row_loops Q (record (inner b.fr b.site) { frame = m }) body) (sym (length-one_more b.fr k)) loops
+  node_loops : {n : _} (b : BB) (k : ℕ) (body : Row_of-Stmt n) → row_loops tcalls allowed Q (with_variable (site_at b)) body → row_loops tcalls allowed Q (at_frame (b.fr ++ k ∷ []) (inner b.fr b.site)) body
+  node_loops b k body loops = subst (λ m. row_loops tcalls allowed Q (record (inner b.fr b.site) { frame = m }) body) (sym (length-one_more b.fr k)) loops
 
   -- a loop over a type that is not of nodes
   finite_loop : {n : _} (b : BB) (at : Span) (over : Simple) (body : Row_of-Stmt n) (block : Stmt) → is_over_nodes over ≡ false → is_simple_type b.scope.kinds over ≡ true → stmt_fits (scope_binding b.scope over) block ≡ true
@@ -175,7 +175,7 @@ module _ (binds : PlacingBinds) (fit : ValuesFitInBodies) (keep : BodiesKeepType
     → Follow b at (turns (λ x c. run_all calls (with_bound b.scene x) c body) (values b.scene.nodes over) b.cells) (term_turns (λ x T. all_done tcalls (with_value (site_at b) x) T body) (fixed_values over) b.T)
   finite_loop b at over body block nn fine fits same ignored each =
       subst (λ xs. Follow b at (turns (λ x c. run_all calls (with_bound b.scene x) c body) xs b.cells) (term_turns (λ x T. all_done tcalls (with_value (site_at b) x) T body) (fixed_values over) b.T)) (sym (values_fixed b.scene.nodes over nn))
-      (turns_told binds fit keep results s P latest types tcalls functions procedures unwritten at over body b fine (λ T c kept rep staying x is. each T c kept rep staying x is fine)
+      (turns_told binds fit keep results s P latest types tcalls allowed functions procedures unwritten at over body b fine (λ T c kept rep staying x is. each T c kept rep staying x is fine)
       (λ T c kept x is next was. keep P latest types (scope_binding b.scope over) (with_bound b.scene x) c block (Next next)
       (typed_binding P latest types calls b.scope b.scene c over x (record {
         fits = b.typed.fits;
@@ -190,23 +190,23 @@ module _ (binds : PlacingBinds) (fit : ValuesFitInBodies) (keep : BodiesKeepType
   mutual
     unfolding run stmt_fits done_by stmt_loops
 
-    pub tells_stmt : (stmt : Stmt) (b : BB) (at : Span) → stmt_fits b.scope stmt ≡ true → stmt_loops Q (site_at b) stmt → Follow b at (run calls b.scene b.cells stmt) (done_by tcalls (site_at b) b.T stmt)
+    pub tells_stmt : (stmt : Stmt) (b : BB) (at : Span) → stmt_fits b.scope stmt ≡ true → stmt_loops tcalls allowed Q (site_at b) stmt → Follow b at (run calls b.scene b.cells stmt) (done_by tcalls (site_at b) b.T stmt)
     tells_stmt (st.Block' _ body) b at fits loops = tells_row body b at fits loops
     tells_stmt (st.Assign to into body) b at fits loops =
         let (writable, rest) = and_parts (may_write b.scope (root_of to)) (is_cell_of into (place_type b.scope to) && is_of into (type_of b.scope body)) fits in
         let (cell, value) = and_parts (is_cell_of into (place_type b.scope to)) (is_of into (type_of b.scope body)) rest in
-        assign_told binds fit keep results s P latest types tcalls functions procedures unwritten b at to into body cell value
+        assign_told binds fit keep results s P latest types tcalls allowed functions procedures unwritten b at to into body cell value
     tells_stmt (st.Copy to into from) b at fits loops =
         let (writable, rest) = and_parts (may_write b.scope (root_of to)) (is_cell_of into (place_type b.scope to) && holds_values_of into (place_type b.scope from)) fits in
         let (cell, value) = and_parts (is_cell_of into (place_type b.scope to)) (holds_values_of into (place_type b.scope from)) rest in
-        copy_told binds fit keep results s P latest types tcalls functions procedures unwritten b at to into from cell value
+        copy_told binds fit keep results s P latest types tcalls allowed functions procedures unwritten b at to into from cell value
     tells_stmt (st.CopyAll to from) b at fits loops =
         let (writable, alike) = and_parts (may_write b.scope (root_of to)) (are_alike (place_type b.scope to) (place_type b.scope from)) fits in
-        copy_all_told binds fit keep results s P latest types tcalls functions procedures unwritten b at to from alike
+        copy_all_told binds fit keep results s P latest types tcalls allowed functions procedures unwritten b at to from alike
     tells_stmt (st.Call k args from) b at fits loops =
         let (outside, rest) = and_parts (not (is_function b.scope.exit)) (option_map_or (λ r. not (is_some r.result) && arguments_fit b.scope r.formals args) (slice_get b.scope.routines k) false) fits in
         let (r, found, none, fit_args) = procedure_found b k args rest in
-        call_told binds fit keep results s P latest types tcalls functions procedures unwritten b at from k args r found none fit_args
+        call_told binds fit keep results s P latest types tcalls allowed functions procedures unwritten b at from k args r found none fit_args (loops b.T)
     tells_stmt (st.If' _ arms _ otherwise from) b at fits loops =
         let (a, o) = and_parts (arms_fit b.scope arms) (body_fits b.scope otherwise) fits in
         let (arm, other) = loops in
@@ -218,7 +218,7 @@ module _ (binds : PlacingBinds) (fit : ValuesFitInBodies) (keep : BodiesKeepType
         let (case, other) = loops in
         let (u, found) = found_type (type_of b.scope on) one in
         switch_told b at (worked calls b.scene from b.cells on) (valued_of tcalls (site_at b) b.T on) (λ w. value_of b.scene.nodes s b.fr (valued_of tcalls (site_at b) b.T on).term ≡ w) (λ w. run_cases calls b.scene from b.cells w cases (run_all calls b.scene b.cells otherwise)) (cases_done tcalls (site_at b) b.T (valued_of tcalls (site_at b) b.T on).term cases (all_done tcalls (site_at b) b.T otherwise))
-        (value_told binds fit keep results s P latest types tcalls functions procedures unwritten b from on u found)
+        (value_told binds fit keep results s P latest types tcalls allowed functions procedures unwritten b from on u found)
         (λ w is. tells_cases cases b at from w (valued_of tcalls (site_at b) b.T on).term is (type_of b.scope on) (run_all calls b.scene b.cells otherwise) (all_done tcalls (site_at b) b.T otherwise) c case (row_unwritten tcalls unwritten (site_at b) b.T otherwise) (tells_row otherwise b at o other))
     tells_stmt (st.For' simple.Node shape body from) b at fits loops =
         let (here_loop, inner_loops) = loops in
@@ -241,42 +241,42 @@ module _ (binds : PlacingBinds) (fit : ValuesFitInBodies) (keep : BodiesKeepType
     tells_stmt (st.Clear place of from) b at fits loops =
         let (writable, rest) = and_parts (may_write b.scope (root_of place)) (is_type b.scope.kinds of && option_map_or (same_type of) (place_type b.scope place) false) fits in
         let (fine, same) = and_parts (is_type b.scope.kinds of) (option_map_or (same_type of) (place_type b.scope place) false) rest in
-        let (U, is) = typed_place binds fit keep results s P latest types tcalls functions procedures unwritten of (place_type b.scope place) same in
-        set_told binds fit keep results s P latest types tcalls functions procedures unwritten b at from place U (cleared of) (store_cleared of) is (cleared_shows binds fit keep results s P latest types tcalls functions procedures unwritten b of)
+        let (U, is) = typed_place binds fit keep results s P latest types tcalls allowed functions procedures unwritten of (place_type b.scope place) same in
+        set_told binds fit keep results s P latest types tcalls allowed functions procedures unwritten b at from place U (cleared of) (store_cleared of) is (cleared_shows binds fit keep results s P latest types tcalls allowed functions procedures unwritten b of)
     tells_stmt (st.Undefine place from) b at fits loops =
         let (writable, rest) = and_parts (may_write b.scope (root_of place)) (is_some (place_type b.scope place)) fits in
-        let (U, is) = some_place binds fit keep results s P latest types tcalls functions procedures unwritten (place_type b.scope place) rest in
-        set_told binds fit keep results s P latest types tcalls functions procedures unwritten b at from place U all_undefined (only v.Undefined) is (λ path key more none long nodes. value-Known b.scene.nodes s (b.fr ++ more) v.Undefined)
-    tells_stmt (st.Error from) b at fits loops = failed_told binds fit keep results s P latest types tcalls functions procedures unwritten b at from
-    tells_stmt (st.Assert test from) b at fits loops = assert_told binds fit keep results s P latest types tcalls functions procedures unwritten b at from test fits
+        let (U, is) = some_place binds fit keep results s P latest types tcalls allowed functions procedures unwritten (place_type b.scope place) rest in
+        set_told binds fit keep results s P latest types tcalls allowed functions procedures unwritten b at from place U all_undefined (only v.Undefined) is (λ path key more none long nodes. value-Known b.scene.nodes s (b.fr ++ more) v.Undefined)
+    tells_stmt (st.Error from) b at fits loops = failed_told binds fit keep results s P latest types tcalls allowed functions procedures unwritten b at from
+    tells_stmt (st.Assert test from) b at fits loops = assert_told binds fit keep results s P latest types tcalls allowed functions procedures unwritten b at from test fits
     tells_stmt (st.PutText from) b at fits loops = (tt, (b.rep, b.staying))
     tells_stmt (st.Put shown from) b at fits loops = (tt, (b.rep, b.staying))
-    tells_stmt (st.Leave from) b at fits loops = leave_told binds fit keep results s P latest types tcalls functions procedures unwritten b at (leaves b fits)
+    tells_stmt (st.Leave from) b at fits loops = leave_told binds fit keep results s P latest types tcalls allowed functions procedures unwritten b at (leaves b fits)
     tells_stmt (st.Return body from) b at fits loops =
         let (u, is, typed_is) = returns_of b (type_of b.scope body) fits in
-        return_told binds fit keep results s P latest types tcalls functions procedures unwritten b at from body u is typed_is
+        return_told binds fit keep results s P latest types tcalls allowed functions procedures unwritten b at from body u is typed_is
 
-    pub tells_row : {n : _} (body : Row_of-Stmt n) (b : BB) (at : Span) → body_fits b.scope body ≡ true → row_loops Q (site_at b) body → Follow b at (run_all calls b.scene b.cells body) (all_done tcalls (site_at b) b.T body)
+    pub tells_row : {n : _} (body : Row_of-Stmt n) (b : BB) (at : Span) → body_fits b.scope body ≡ true → row_loops tcalls allowed Q (site_at b) body → Follow b at (run_all calls b.scene b.cells body) (all_done tcalls (site_at b) b.T body)
     tells_row end_of-Stmt b at fits loops = (tt, (b.rep, b.staying))
     tells_row (more_of-Stmt first rest) b at fits loops =
         let (f, r) = and_parts (stmt_fits b.scope first) (body_fits b.scope rest) fits in
         let (one, others) = loops in
         row_told b at first rest f (tells_stmt first b at f one) (λ T c kept rep staying. tells_row rest (further b T c kept rep staying) at r others)
 
-    tells_arms : {n : _} (arms : Row_of-Arm n) (b : BB) (at from : Span) (o : Outcome Ending) (otherwise : Done) → arms_fit b.scope arms ≡ true → arm_loops Q (site_at b) arms → Unwritten b.site.depth b.T otherwise.change → Follow b at o otherwise → Tells b.scene.nodes s b.fr (given (run_arms calls b.scene from b.cells arms o) (checked b.scene.nodes s at b.site.result)) ((arms_done tcalls (site_at b) b.T arms otherwise).demands) (BranchEnds b.scene.nodes s b.scene.depth b.fr b.site.result b.T (arms_done tcalls (site_at b) b.T arms otherwise))
-    tells_arms end_of-Arm b at from o otherwise fits loops same last = last_told binds fit keep results s P latest types tcalls functions procedures unwritten b at o otherwise same last
+    tells_arms : {n : _} (arms : Row_of-Arm n) (b : BB) (at from : Span) (o : Outcome Ending) (otherwise : Done) → arms_fit b.scope arms ≡ true → arm_loops tcalls allowed Q (site_at b) arms → Unwritten b.site.depth b.T otherwise.change → Follow b at o otherwise → Tells b.scene.nodes s b.fr (given (run_arms calls b.scene from b.cells arms o) (checked b.scene.nodes s at b.site.result)) ((arms_done tcalls (site_at b) b.T arms otherwise).demands) (BranchEnds b.scene.nodes s b.scene.depth b.fr b.site.result b.T (arms_done tcalls (site_at b) b.T arms otherwise))
+    tells_arms end_of-Arm b at from o otherwise fits loops same last = last_told binds fit keep results s P latest types tcalls allowed functions procedures unwritten b at o otherwise same last
     tells_arms (more_of-Arm test _ body rest) b at from o otherwise fits loops same last =
         let (truths, more) = and_parts (is_of simple.Truth (type_of b.scope test)) (body_fits b.scope body && arms_fit b.scope rest) fits in
         let (f, r) = and_parts (body_fits b.scope body) (arms_fit b.scope rest) more in
         let (one, others) = loops in
-        one_told binds fit keep results s P latest types tcalls functions procedures unwritten b at (worked calls b.scene from b.cells test) truth (valued_of tcalls (site_at b) b.T test) (run_all calls b.scene b.cells body) (all_done tcalls (site_at b) b.T body) (run_arms calls b.scene from b.cells rest o) (arms_done tcalls (site_at b) b.T rest otherwise)
+        one_told binds fit keep results s P latest types tcalls allowed functions procedures unwritten b at (worked calls b.scene from b.cells test) truth (valued_of tcalls (site_at b) b.T test) (run_all calls b.scene b.cells body) (all_done tcalls (site_at b) b.T body) (run_arms calls b.scene from b.cells rest o) (arms_done tcalls (site_at b) b.T rest otherwise)
         (truth_told b from test truths) (row_unwritten tcalls unwritten (site_at b) b.T body) (tells_row body b at f one) (tells_arms rest b at from o otherwise r others same last)
 
-    tells_cases : {n : _} (cases : Row_of-Case n) (b : BB) (at from : Span) (w : Value) (on : Term) → value_of b.scene.nodes s b.fr on ≡ w → (u : Option Simple) (o : Outcome Ending) (otherwise : Done) → cases_fit b.scope u cases ≡ true → case_loops Q (site_at b) cases → Unwritten b.site.depth b.T otherwise.change → Follow b at o otherwise → Tells b.scene.nodes s b.fr (given (run_cases calls b.scene from b.cells w cases o) (checked b.scene.nodes s at b.site.result)) ((cases_done tcalls (site_at b) b.T on cases otherwise).demands) (BranchEnds b.scene.nodes s b.scene.depth b.fr b.site.result b.T (cases_done tcalls (site_at b) b.T on cases otherwise))
-    tells_cases end_of-Case b at from w on is u o otherwise fits loops same last = last_told binds fit keep results s P latest types tcalls functions procedures unwritten b at o otherwise same last
+    tells_cases : {n : _} (cases : Row_of-Case n) (b : BB) (at from : Span) (w : Value) (on : Term) → value_of b.scene.nodes s b.fr on ≡ w → (u : Option Simple) (o : Outcome Ending) (otherwise : Done) → cases_fit b.scope u cases ≡ true → case_loops tcalls allowed Q (site_at b) cases → Unwritten b.site.depth b.T otherwise.change → Follow b at o otherwise → Tells b.scene.nodes s b.fr (given (run_cases calls b.scene from b.cells w cases o) (checked b.scene.nodes s at b.site.result)) ((cases_done tcalls (site_at b) b.T on cases otherwise).demands) (BranchEnds b.scene.nodes s b.scene.depth b.fr b.site.result b.T (cases_done tcalls (site_at b) b.T on cases otherwise))
+    tells_cases end_of-Case b at from w on is u o otherwise fits loops same last = last_told binds fit keep results s P latest types tcalls allowed functions procedures unwritten b at o otherwise same last
     tells_cases (more_of-Case labels _ body rest) b at from w on is u o otherwise fits loops same last =
         let (l, more) = and_parts (labels_fit b.scope u labels) (body_fits b.scope body && cases_fit b.scope u rest) fits in
         let (f, r) = and_parts (body_fits b.scope body) (cases_fit b.scope u rest) more in
         let (one, others) = loops in
-        one_told binds fit keep results s P latest types tcalls functions procedures unwritten b at (is_among (worked calls b.scene from b.cells) w labels) (λ found. found) (among (labels_of (valued_of tcalls (site_at b) b.T) (site_at b) on labels)) (run_all calls b.scene b.cells body) (all_done tcalls (site_at b) b.T body) (run_cases calls b.scene from b.cells w rest o) (cases_done tcalls (site_at b) b.T on rest otherwise)
+        one_told binds fit keep results s P latest types tcalls allowed functions procedures unwritten b at (is_among (worked calls b.scene from b.cells) w labels) (λ found. found) (among (labels_of (valued_of tcalls (site_at b) b.T) (site_at b) on labels)) (run_all calls b.scene b.cells body) (all_done tcalls (site_at b) b.T body) (run_cases calls b.scene from b.cells w rest o) (cases_done tcalls (site_at b) b.T on rest otherwise)
         (among_told b from on w labels is u l) (row_unwritten tcalls unwritten (site_at b) b.T body) (tells_row body b at f one) (tells_cases rest b at from w on is u o otherwise r others same last)

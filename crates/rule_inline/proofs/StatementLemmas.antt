@@ -68,27 +68,28 @@ use Rattle.rule_inline.proofs.ChangeLemmas.{InScope, Unwritten, CallsUnwritten, 
 use Rattle.rule_inline.proofs.LeftLemmas.{SameTerms, same_leaving, turns_left, row_left}
 use Rattle.rule_inline.proofs.EndLemmas.{result_of, Body, here_of, typed_after, further, body_value, body_node, ResultIs, EndsWith, ends_same, checked, GoesOn, tells_next, goes_written, taken_same, BranchEnds, chosen_ends}
 
--- every loop over nodes of a body has a property
+-- every loop over nodes of a body has a property, and so has every procedure that it calls with what it gives
 unfoldable mutual
-  pub stmt_loops : ((n : _) → Site → Row_of-Stmt n → Type 0) → Site → Stmt → Type 0
-  stmt_loops Q site (st.Block' _ body) = row_loops Q site body
-  stmt_loops Q site (st.If' _ arms _ otherwise at) = arm_loops Q site arms × row_loops Q site otherwise
-  stmt_loops Q site (st.Switch' on _ cases _ otherwise at) = case_loops Q site cases × row_loops Q site otherwise
-  stmt_loops Q site (st.For' simple.Node _ body at) = Q _ site body × row_loops Q (with_variable site) body
-  stmt_loops Q site (st.For' over _ body at) = (x : Value) → row_loops Q (with_value site x) body
-  stmt_loops Q site _ = Unit {0}
+  pub stmt_loops : TermCalls → (ℕ → Site → List Gift → Type 0) → ((n : _) → Site → Row_of-Stmt n → Type 0) → Site → Stmt → Type 0
+  stmt_loops tcalls allowed Q site (st.Block' _ body) = row_loops tcalls allowed Q site body
+  stmt_loops tcalls allowed Q site (st.Call k args at) = (T : Terms) → allowed k site (argued_of tcalls site T args).given
+  stmt_loops tcalls allowed Q site (st.If' _ arms _ otherwise at) = arm_loops tcalls allowed Q site arms × row_loops tcalls allowed Q site otherwise
+  stmt_loops tcalls allowed Q site (st.Switch' on _ cases _ otherwise at) = case_loops tcalls allowed Q site cases × row_loops tcalls allowed Q site otherwise
+  stmt_loops tcalls allowed Q site (st.For' simple.Node _ body at) = Q _ site body × row_loops tcalls allowed Q (with_variable site) body
+  stmt_loops tcalls allowed Q site (st.For' over _ body at) = (x : Value) → row_loops tcalls allowed Q (with_value site x) body
+  stmt_loops tcalls allowed Q site _ = Unit {0}
 
-  pub row_loops : {n : _} → ((n : _) → Site → Row_of-Stmt n → Type 0) → Site → Row_of-Stmt n → Type 0
-  row_loops Q site end_of-Stmt = Unit {0}
-  row_loops Q site (more_of-Stmt first rest) = stmt_loops Q site first × row_loops Q site rest
+  pub row_loops : {n : _} → TermCalls → (ℕ → Site → List Gift → Type 0) → ((n : _) → Site → Row_of-Stmt n → Type 0) → Site → Row_of-Stmt n → Type 0
+  row_loops tcalls allowed Q site end_of-Stmt = Unit {0}
+  row_loops tcalls allowed Q site (more_of-Stmt first rest) = stmt_loops tcalls allowed Q site first × row_loops tcalls allowed Q site rest
 
-  pub arm_loops : {n : _} → ((n : _) → Site → Row_of-Stmt n → Type 0) → Site → Row_of-Arm n → Type 0
-  arm_loops Q site end_of-Arm = Unit {0}
-  arm_loops Q site (more_of-Arm test _ body rest) = row_loops Q site body × arm_loops Q site rest
+  pub arm_loops : {n : _} → TermCalls → (ℕ → Site → List Gift → Type 0) → ((n : _) → Site → Row_of-Stmt n → Type 0) → Site → Row_of-Arm n → Type 0
+  arm_loops tcalls allowed Q site end_of-Arm = Unit {0}
+  arm_loops tcalls allowed Q site (more_of-Arm test _ body rest) = row_loops tcalls allowed Q site body × arm_loops tcalls allowed Q site rest
 
-  pub case_loops : {n : _} → ((n : _) → Site → Row_of-Stmt n → Type 0) → Site → Row_of-Case n → Type 0
-  case_loops Q site end_of-Case = Unit {0}
-  case_loops Q site (more_of-Case labels _ body rest) = row_loops Q site body × case_loops Q site rest
+  pub case_loops : {n : _} → TermCalls → (ℕ → Site → List Gift → Type 0) → ((n : _) → Site → Row_of-Stmt n → Type 0) → Site → Row_of-Case n → Type 0
+  case_loops tcalls allowed Q site end_of-Case = Unit {0}
+  case_loops tcalls allowed Q site (more_of-Case labels _ body rest) = row_loops tcalls allowed Q site body × case_loops tcalls allowed Q site rest
 
 -- a check of a result commutes with what follows
 row_checked : (N : ℕ) (s : Cells) (at : Span) (res : Option Simple) (o : Outcome Ending) (R : Store → Outcome Ending) → given (given o (λ e. then_on e R)) (checked N s at res) ≡ given (given o (checked N s at res)) (λ e. then_on e (λ c. given (R c) (checked N s at res)))
@@ -127,7 +128,7 @@ then_told N s depth fr at res o R a next first more left =
     after (Next c) was (rep, staying) = more c (checked_next N s at res o c was) rep staying
     after (Returned c r) was (rep, is_left, is) = let (all, same) = left is_left in (all, ends_same N s depth fr res a.change (next a.change.now).change (Returned c r) same (rep, is_left, is))
 
-module _ (binds : PlacingBinds) (fit : ValuesFitInBodies) (keep : BodiesKeepTypes) (results : FunctionsGiveResults) (s : Cells) (P : Typed) (latest : List Routine) (types : Declared) (tcalls : TermCalls) where
+module _ (binds : PlacingBinds) (fit : ValuesFitInBodies) (keep : BodiesKeepTypes) (results : FunctionsGiveResults) (s : Cells) (P : Typed) (latest : List Routine) (types : Declared) (tcalls : TermCalls) (allowed : ℕ → Site → List Gift → Type 0) where
   abbrev pub B : Type 0
   B = Body s P latest types
 
@@ -150,7 +151,7 @@ module _ (binds : PlacingBinds) (fit : ValuesFitInBodies) (keep : BodiesKeepType
       (k : ℕ) (r : Routine) (args : Arguments) (at : Span) (gs : List Given) (gifts : List Gift)
       → slice_get (reverse latest) k ≡ Some r → r.result ≡ None → arguments_fit b.scope r.formals args ≡ true
       → arguments_of calls b.scene at b.cells args ≡ Got gs
-      → ArgsAre b.scene.nodes s b.scene.depth b.fr r.formals gifts gs
+      → ArgsAre b.scene.nodes s b.scene.depth b.fr r.formals gifts gs → allowed k (site_at b) gifts
       → Tells b.scene.nodes s b.fr (calls k b.scene at gs b.cells) ((tcalls k (site_at b) b.T gifts).demands)
       (λ left. Rep b.scene.nodes s b.scene.depth b.fr ((tcalls k (site_at b) b.T gifts).change.now) left.cells)
 
