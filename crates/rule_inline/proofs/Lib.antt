@@ -18,3 +18,5 @@ pub mod EndLemmas
 pub mod StatementLemmas
 pub mod BranchLemmas
 pub mod StatementLaw
+pub mod CallLemmas
+pub mod CallLaw
