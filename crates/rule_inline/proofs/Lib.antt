@@ -20,3 +20,5 @@ pub mod BranchLemmas
 pub mod StatementLaw
 pub mod CallLemmas
 pub mod CallLaw
+pub mod PrefixLemmas
+pub mod FormulaPrefix

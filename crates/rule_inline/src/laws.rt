@@ -1,5 +1,6 @@
 //! What holds of the translation: laws, each on a function that does nothing.
 
+ghost use Rattle.rule_inline.specs.Laws.{PiecesWithinPrefix};
 ghost use Rattle.rule_inline.specs.Worked.{CopiesAreAsWorked, LinkIsAsWorked, MutexIsAsWorked, CallsAreAsWorked};
 ghost use Rattle.rule_inline.specs.WorkedMore.{MixedAreAsWorked};
 
@@ -10,4 +11,9 @@ pub fn worked_cases()
     ensures mutex { MutexIsAsWorked }
     ensures calls { CallsAreAsWorked }
     ensures mixed { MixedAreAsWorked }
+{}
+
+/// No piece of a formula has more binders than the formula's prefix in the source.
+pub fn pieces_within_prefix()
+    ensures within { PiecesWithinPrefix }
 {}
