@@ -22,3 +22,4 @@ pub mod CallLemmas
 pub mod CallLaw
 pub mod PrefixLemmas
 pub mod FormulaPrefix
+pub mod FirstTerms
