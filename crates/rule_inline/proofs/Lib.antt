@@ -23,3 +23,4 @@ pub mod CallLaw
 pub mod PrefixLemmas
 pub mod FormulaPrefix
 pub mod FirstTerms
+pub mod ParameterLemmas
