@@ -24,3 +24,4 @@ pub mod PrefixLemmas
 pub mod FormulaPrefix
 pub mod FirstTerms
 pub mod ParameterLemmas
+pub mod FormulaLaw
