@@ -25,3 +25,4 @@ pub mod FormulaPrefix
 pub mod FirstTerms
 pub mod ParameterLemmas
 pub mod FormulaLaw
+pub mod KindLemmas
