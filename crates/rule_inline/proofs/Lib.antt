@@ -26,3 +26,4 @@ pub mod FirstTerms
 pub mod ParameterLemmas
 pub mod FormulaLaw
 pub mod KindLemmas
+pub mod LooplessLaw
