@@ -9,13 +9,13 @@ use Rattle.term_core.specs.declared.value.Value.{Value}
 use Rattle.term_core.specs.declared.value.Value.TheVariants as v
 use Rattle.term_core.specs.declared.term.Term as t
 use Rattle.term_core.specs.declared.term.Term.{Term}
+use Rattle.term_core.specs.declared.machine.CellFamily.{CellFamily}
 use Rattle.term_core.specs.Lists.{list_indices}
 use Rattle.term_core.specs.Nodes.{is_node, nodes}
 use Rattle.term_core.specs.Values.{same_value}
 use Rattle.term_core.specs.Variables.{is_no_node}
 use Rattle.term_core.specs.Meaning.{Cells, value_of, index_of, with_index, cell_at}
 use Rattle.term_core.specs.Cells.{cell_value, filled, table, is_cell}
-use Rattle.term_core.specs.Laws.{TablesHaveValues}
 use Rattle.murphi_typed.specs.declared.types.Simple.{Simple}
 use Rattle.murphi_typed.specs.declared.types.Simple.TheVariants as simple
 use Rattle.murphi_typed.specs.declared.protocol.Typed.{Typed}
@@ -278,17 +278,21 @@ get_map f [] k x e = cc
 get_map f (y ∷ ys) zero x e = let same : y ≡ x = cc in ap (λ z. Some (f z)) same
 get_map f (y ∷ ys) (suc k) x e = get_map f ys k x e
 
-pub machine_value : TablesHaveValues Value → (N : ℕ) (T : Typed) (s : State) (f : ℕ) (d : CellsOf) (ns : List ℕ) → slice_get (families_of T) f ≡ Some d → length ns ≡ holes d.key → list_all (is_node N) ns ≡ true
+-- a filled state has the values that it is filled with
+abbrev pub FilledValues : Type 0
+FilledValues = (N : ℕ) (families : List CellFamily) (g : Cells) (f : ℕ) (at : List ℕ) → IsTrue (is_cell N families f at) → cell_value N families (filled N families g) f at ≡ g f at
+
+pub machine_value : FilledValues → (N : ℕ) (T : Typed) (s : State) (f : ℕ) (d : CellsOf) (ns : List ℕ) → slice_get (families_of T) f ≡ Some d → length ns ≡ holes d.key → list_all (is_node N) ns ≡ true
     → cell_value N (trans T).families (state_over N T (trans T).families s) f ns ≡ cell_in (cells_of N T s) d ns
 machine_value tables N T s f d ns found long nodes =
-    tables N (trans T).families v.Undefined (machine_cells T (cells_of N T s)) f ns
+    tables N (trans T).families (machine_cells T (cells_of N T s)) f ns
     (ap (λ o. option_map_or (λ family. nat_eq (length ns) family.axes && list_all (is_node N) ns) o false) (get_map (cell_family T) (families_of T) f d found)
     ∙ ap (λ n. nat_eq n (holes d.key) && list_all (is_node N) ns) long
     ∙ ap (λ b. b && list_all (is_node N) ns) (nat_itself (holes d.key)) ∙ nodes)
     ∙ ap (λ o. option_map_or (λ g. cell_in (cells_of N T s) g ns) o v.Undefined) found
 
 -- the first terms represent each state
-pub state_rep : TablesHaveValues Value → (N : ℕ) (T : Typed) (s : State) (depth : ℕ) (fr : List ℕ) → Rep N (cell_value N (trans T).families (state_over N T (trans T).families s)) depth fr (first_terms (families_of T) (length fr)) (cells_of N T s)
+pub state_rep : FilledValues → (N : ℕ) (T : Typed) (s : State) (depth : ℕ) (fr : List ℕ) → Rep N (cell_value N (trans T).families (state_over N T (trans T).families s)) depth fr (first_terms (families_of T) (length fr)) (cells_of N T s)
 state_rep tables N T s =
     first_rep N (cell_value N (trans T).families (state_over N T (trans T).families s)) T (cells_of N T s)
     (λ f d ns found long nodes. machine_value tables N T s f d ns found long nodes)

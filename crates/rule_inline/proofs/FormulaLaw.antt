@@ -14,7 +14,7 @@ use Rattle.term_core.specs.Values.{truth}
 use Rattle.term_core.specs.Meaning.{Cells, value_of}
 use Rattle.term_core.specs.Cells.{cell_value}
 use Rattle.term_core.specs.Firing.{IsTrueForAll, AllPiecesHold}
-use Rattle.term_core.specs.Laws.{PlacingBinds, TablesHaveValues}
+use Rattle.term_core.specs.Laws.{PlacingBinds}
 use Rattle.murphi_typed.specs.declared.types.Kind.{Kind}
 use Rattle.murphi_typed.specs.declared.types.Simple.TheVariants as simple
 use Rattle.murphi_typed.specs.declared.expr.Arguments.{Arguments}
@@ -46,7 +46,7 @@ use Rattle.rule_inline.proofs.ExpressionLaw.{tells_value}
 use Rattle.rule_inline.proofs.SceneLemmas.{at_frame}
 use Rattle.rule_inline.proofs.StatementLaw.{LoopsTell}
 use Rattle.rule_inline.proofs.CallLaw.{fine_in, FunctionsFine, function_fine, calls_told}
-use Rattle.rule_inline.proofs.FirstTerms.{Each, each_weaker, each_of, each_map, each_under, each_flat, each_flat_parts, state_rep}
+use Rattle.rule_inline.proofs.FirstTerms.{FilledValues, Each, each_weaker, each_of, each_map, each_under, each_flat, each_flat_parts, state_rep}
 use Rattle.rule_inline.proofs.ParameterLemmas.{at_instance, instances_fit, Fits, choice_is, parameters_bound}
 
 -- Lists
@@ -117,7 +117,7 @@ module _ (N : ℕ) (c : Cells) where
 
 -- Formulas
 
-module _ (binds : PlacingBinds) (fit : ValuesFitInBodies) (keep : BodiesKeepTypes) (results : FunctionsGiveResults) (enter : CalledBodiesAreTyped) (top : TopBodiesAreTyped) (tables : TablesHaveValues Value)
+module _ (binds : PlacingBinds) (fit : ValuesFitInBodies) (keep : BodiesKeepTypes) (results : FunctionsGiveResults) (enter : CalledBodiesAreTyped) (top : TopBodiesAreTyped) (tables : FilledValues)
   (N : ℕ) (T : Typed) (more : List Kind) (s : State) (well : is_well_typed (with_kinds T more) ≡ true) (state : IsState N T s)
   (Q : (n : _) → Site → Row_of-Stmt n → Type 0)
   (loop_tells : (latest : List Routine) (types : Declared) → LoopsTell binds fit keep results (cell_value N (trans T).families (state_over N T (trans T).families s)) (with_kinds T more) latest types (calls_in latest) (fine_in Q latest) Q)

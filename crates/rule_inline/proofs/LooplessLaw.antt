@@ -5,7 +5,7 @@ use Rattle.std.specs.List.{list_all}
 use Rattle.std.proofs.lemmas.Bool.{and_parts}
 use Rattle.std.proofs.lemmas.List.{reverse-append}
 use Rattle.term_core.specs.declared.value.Value.{Value}
-use Rattle.term_core.specs.Laws.{PlacingBinds, TablesHaveValues}
+use Rattle.term_core.specs.Laws.{PlacingBinds}
 use Rattle.murphi_typed.specs.declared.types.Simple.TheVariants as simple
 use Rattle.murphi_typed.specs.declared.stmt.Stmt as st
 use Rattle.murphi_typed.specs.declared.stmt.Stmt.{Stmt, Row_of-Stmt, end_of-Stmt, more_of-Stmt, Row_of-Arm, end_of-Arm, more_of-Arm, Row_of-Case, end_of-Case, more_of-Case}
@@ -19,6 +19,7 @@ use Rattle.rule_inline.proofs.ValueLemmas.{absurd_false}
 use Rattle.rule_inline.proofs.TermLemmas.{and_of}
 use Rattle.rule_inline.proofs.StatementLemmas.{stmt_loops, row_loops, arm_loops, case_loops}
 use Rattle.rule_inline.proofs.CallLaw.{pick_type, fine_in, FunctionsFine}
+use Rattle.rule_inline.proofs.FirstTerms.{FilledValues}
 use Rattle.rule_inline.proofs.KindLemmas.{well_typed_more}
 use Rattle.rule_inline.proofs.FormulaLaw.{pieces_say}
 
@@ -92,7 +93,7 @@ functions_fine (r ∷ earlier) e =
     let (one, rest) = and_parts (is_loopless r.body) (list_all (λ (q : Routine). is_loopless q.body) earlier) e in
     ((λ u site gifts is. stmt_fine (calls_in earlier) (fine_in NoLoop earlier) (every_fine earlier rest) (called_site site r.result gifts) r.body one), functions_fine earlier rest)
 
-pub formulas_said : PlacingBinds → ValuesFitInBodies → BodiesKeepTypes → FunctionsGiveResults → CalledBodiesAreTyped → TopBodiesAreTyped → TablesHaveValues Value → PiecesSayFormula HasLooplessRoutines
+pub formulas_said : PlacingBinds → ValuesFitInBodies → BodiesKeepTypes → FunctionsGiveResults → CalledBodiesAreTyped → TopBodiesAreTyped → FilledValues → PiecesSayFormula HasLooplessRoutines
 formulas_said binds fit keep results enter top tables T more f N s well loops fits one state =
     pieces_say binds fit keep results enter top tables N T more s (well_typed_more more T well) state NoLoop
     (λ latest types b at n body fits q each. absurd q)
