@@ -1,79 +1,42 @@
 -- Calls, by recursion over the list of routines: a routine calls only those before it in the text.
-use Rattle.std.proofs.Common.{arith, ◌≡◌, ℕ, zero, suc, ◌+◌, ◌<◌, Bool, true, false, not, ◌&&◌, ◌||◌, cond, List, [], ◌∷◌, ◌++◌, length, map, reverse, Option, None, Some, ◌⊎◌, inl, inr, refl, sym, ap, ◌∙◌, subst, append_assoc, append-nil}
-use Rattle.std.specs.Prelude.{pos, slice_get, option_map, option_and_then, is_some, if◌then◌else◌, unwrap_or}
-use Rattle.std.specs.List.{list_all, list_any}
+use Rattle.std.proofs.Common.{◌≡◌, ℕ, suc, Bool, true, false, ◌&&◌, List, [], ◌∷◌, ◌++◌, length, reverse, Option, None, Some, refl, sym, ap, ◌∙◌, subst, append_assoc}
+use Rattle.std.specs.Prelude.{slice_get, if◌then◌else◌}
+use Rattle.std.specs.List.{list_all}
 use Rattle.std.specs.Option.{option_map_or}
 use Rattle.std.proofs.lemmas.Bool.{and_parts}
-use Rattle.std.proofs.lemmas.Option.{slice_get_within}
 use Rattle.term_core.specs.declared.value.Value.{Value}
 use Rattle.term_core.specs.declared.value.Value.TheVariants as v
-use Rattle.term_core.specs.declared.value.ArithOp.TheVariants as operation
-use Rattle.term_core.specs.declared.term.Term as t
-use Rattle.term_core.specs.declared.term.Term.{Term}
-use Rattle.term_core.specs.Nodes.{is_node, nodes}
-use Rattle.term_core.specs.Values.{truth, number, same_value}
-use Rattle.term_core.specs.Meaning.{Cells, value_of, holds_at}
+use Rattle.term_core.specs.Values.{truth}
+use Rattle.term_core.specs.Meaning.{Cells, value_of}
 use Rattle.term_core.specs.Laws.{PlacingBinds}
-use Rattle.murphi_ast.specs.declared.token.Span.{Span}
-use Rattle.murphi_ast.specs.declared.expr.ChainOp.{ChainOp}
-use Rattle.murphi_ast.specs.declared.expr.ChainOp.TheVariants as op
-use Rattle.murphi_ast.specs.declared.expr.CompareOp.{CompareOp}
-use Rattle.murphi_ast.specs.declared.expr.CompareOp.TheVariants as compare
 use Rattle.murphi_typed.specs.declared.types.Simple.{Simple}
-use Rattle.murphi_typed.specs.declared.types.Simple.TheVariants as simple
-use Rattle.murphi_typed.specs.declared.types.AnyType as type
-use Rattle.murphi_typed.specs.declared.types.AnyType.{AnyType}
-use Rattle.murphi_typed.specs.declared.expr.Root.{Root}
-use Rattle.murphi_typed.specs.declared.expr.Expr as x
-use Rattle.murphi_typed.specs.declared.expr.Expr.{Expr, end_of-Expr, more_of-Expr, Row_of-Link, end_of-Link, more_of-Link}
-use Rattle.murphi_typed.specs.declared.expr.Designator as d
-use Rattle.murphi_typed.specs.declared.expr.Designator.{Designator, Row_of-Selector, end_of-Selector, more_of-Selector}
-use Rattle.murphi_typed.specs.declared.expr.Selector as select
-use Rattle.murphi_typed.specs.declared.expr.Arguments as a
-use Rattle.murphi_typed.specs.declared.expr.Arguments.{Arguments, Row_of-Argument, end_of-Argument, more_of-Argument}
-use Rattle.murphi_typed.specs.declared.expr.Argument as argument
+use Rattle.murphi_typed.specs.declared.expr.Arguments.{Arguments}
 use Rattle.murphi_typed.specs.declared.protocol.Routine.{Routine}
 use Rattle.murphi_typed.specs.declared.protocol.Formal.{Formal as DeclaredFormal}
-use Rattle.murphi_typed.specs.Forms.{NotForm, MinusForm, CompareForm, ImpliesForm, ChoiceForm, QuantifiedForm}
-use Rattle.murphi_typed.specs.Values.{is_value, may_hold, values, cleared_value}
-use Rattle.murphi_typed.specs.Families.{leaf_at}
-use Rattle.murphi_typed.specs.declared.stmt.Stmt as st
-use Rattle.murphi_typed.specs.declared.stmt.Stmt.{Stmt, Row_of-Stmt, end_of-Stmt, more_of-Stmt, Row_of-Arm, end_of-Arm, more_of-Arm, Row_of-Case, end_of-Case, more_of-Case}
+use Rattle.murphi_typed.specs.declared.stmt.Stmt.{Row_of-Stmt}
 use Rattle.murphi_typed.specs.declared.protocol.Typed.{Typed}
-use Rattle.murphi_typed.specs.Store.{Owner, Global, Local, Formal, Place, Contents, Cells as Store, cell_at, contents_at, only, written as store_written}
-use Rattle.murphi_typed.specs.Outcome.{Outcome, Got, Fault, given, or_fault}
-use Rattle.murphi_typed.specs.Expressions.{Given, Filled, Standing, Scene, Left, Calls, as_truth, calculated, joined, compared, defined, over_all, with_bound, root_place, under, row_path, fitting, value_of as worked, chain_value as worked_chain, place_of, indices_of as worked_indices, arguments_of, row_arguments, argument_of}
-use Rattle.murphi_typed.specs.Prefix.{is_over_nodes}
-use Rattle.murphi_typed.specs.WellTyped.{formal_allowed, exit_of, routine_scope, routine_fits, are_variables, Scope, binding as scope_binding, numbers, widened, is_simple_type, root_type, simple_part, field_part, item_part, is_of, only_if, operand_type, comparable, first_of, rest_of, is_compound, same_simple, same_type, is_cell_of, holds_values_of, are_alike, labels_fit, is_function, is_procedure, returns, is_type, Exit, AtEnd, ByReturn, WithValue, stmt_fits, body_fits, arms_fit, cases_fit, may_write, root_of, given_value, given_compound, given_place, type_of, chain_type, place_type, selected_type, arguments_fit, row_fits, argument_fits}
-use Rattle.murphi_typed.specs.Keeping.{Declared, AreKept, IsTypedBody, LatestFit, inner_types}
+use Rattle.murphi_typed.specs.Outcome.{Outcome, Got, Fault, given}
+use Rattle.murphi_typed.specs.Expressions.{Given, arguments_of}
+use Rattle.murphi_typed.specs.WellTyped.{formal_allowed, routine_scope, routine_fits, are_variables, is_simple_type, is_type, stmt_fits, arguments_fit}
+use Rattle.murphi_typed.specs.Keeping.{Declared, LatestFit, inner_types}
 use Rattle.murphi_typed.specs.Laws.{ValuesFitInBodies, BodiesKeepTypes, FunctionsGiveResults, CalledBodiesAreTyped}
-use Rattle.rule_inline.specs.Demands.{Demand, demand, truth_term, under_test, binding, unless_left}
-use Rattle.rule_inline.specs.Tables.{Slot, Family, Leaving, Result, axes, Terms, Change, unchanged, renewed_by, under_variable, Index, Spot, Shown, shown_at, read_of, only_term, written, Branch, branch_chain, or_else, first_of_branches, chosen, over_nodes as after_nodes}
-use Rattle.rule_inline.specs.Bodies.{called_site, given_terms, entered, formal_fits, formals_fit, demanding, called, calls_in, nothing, followed, reached, stored as stored_done, copied, copied_all, set, cleared, all_undefined, left_with, leave, result_stored, returned, asserted, failed, Branching, last_branch, one_branch, branched, Labels, no_labels, one_label, labels_of, one_of_labels, among, turns as term_turns, for_nodes, came_back, with_arguments, back, taken, done_by, all_done, arms_done, cases_done}
-use Rattle.rule_inline.specs.Parts.{Given as Gift, Filled as Filling, Standing as Placing, Site, with_value, with_variable, Valued, Placed, Indexed, Argued, Calls as TermCalls, Done, fixed_values, undefined, stored_fits, is_defined, index_fits, whole, result_fits, calculated as calculated_term, joined as joined_term, compared as compared_term, after, negated, compared_values, implied, choice, over_values, terms_of, mark_of, place_mark, root_spot, index_over, valued_of, chain_of, placed_of, indices_of, argued_of, row_argued, one_argued, placed_under, with_calls, over_nodes, demands_of}
+use Rattle.rule_inline.specs.Demands.{demand}
+use Rattle.rule_inline.specs.Tables.{Leaving, Result, Terms}
+use Rattle.rule_inline.specs.Bodies.{called_site, entered, formals_fit, called, calls_in, done_by}
+use Rattle.rule_inline.specs.Parts.{Given as Gift, Site, Done}
 use Rattle.rule_inline.proofs.ValueLemmas.{absurd_false}
-use Rattle.rule_inline.proofs.TermLemmas.{value-Known, value-Not, value-And, value-Or, value-If, value-Same, value-Less, value-Quantified, is_true, length-one_more, append_nothing}
-use Rattle.rule_inline.proofs.Outcome.{Either, either_map, AllHold, SomeFails, Tells, all_joined, fails_first, fails_second, one_holds, one_fails, tells_given, tells_then, tells_map, tells_test, tells_under, tells_unless, all_beside}
-use Rattle.rule_inline.proofs.PlaceLemmas.{NoNodes, Rep, IndexIs, Leads}
-use Rattle.rule_inline.proofs.WriteLemmas.{Shows, only_shows, Spots, place_shows}
-use Rattle.rule_inline.proofs.TypeLemmas.{not_some, some_one, only_parts, simples_one, of_type, not_undefined, defined_is, index_is, EachValue, are_values, values_fixed, index_leads}
-use Rattle.rule_inline.proofs.ArithLemmas.{number_value, tells_calculated, Storable, tells_stored, may_is}
-use Rattle.rule_inline.proofs.SceneLemmas.{Sound, sound_binding, typed_binding, GiftIs, GiftsAre, bound_there, rep_under, at_frame, inner, Sited, site_under, site_value, root_spots}
-use Rattle.rule_inline.proofs.QuantifierLemmas.{given_twice, tells_before, tells_after, tells_nodes, quantified, tells_values}
-use Rattle.rule_inline.proofs.PartLemmas.{Here, simple_found, ArgIs, ArgsAre, FunctionTells, widened_found, found_simple, bound_found, none_selected, none_chain, rooted, equal_types, comparable_types, operand_widened, row_more, value_typed, compound_typed, place_typed, given_into, given_no_simple, each_map, leads_joined, tells_got, IsTold, IsTyped, told_not, told_minus, told_compared, told_implied, told_choice, told_chain, defined_told, index_told}
-use Rattle.murphi_typed.specs.Execution.{simple_type, Ending, Next, Returned, cells_after, then_on, turns, at_of, stored, with_value as with_value_at, cleared as store_cleared, is_among, run, run_all, run_arms, run_cases, calls_of, call_of, called_scene, ended, filled, entered as store_entered, formal_fits as store_formal_fits, formals_fit as store_formals_fit}
-use Rattle.rule_inline.proofs.ExpressionLaw.{typed, read_value, cell_storable, tells_value, tells_place, tells_arguments}
-use Rattle.rule_inline.proofs.ChangeLemmas.{reaches_deeper, calls_unwritten, InScope, Unwritten, CallsUnwritten, stmt_unwritten, row_unwritten}
-use Rattle.rule_inline.proofs.LeftLemmas.{SameTerms, same_leaving, turns_left, row_left}
-use Rattle.rule_inline.proofs.EndLemmas.{result_of, Body, here_of, typed_after, further, body_value, body_node, ResultIs, EndsWith, ends_same, checked, GoesOn, tells_next, goes_written, taken_same, BranchEnds, chosen_ends}
-use Rattle.term_core.specs.Substitution.{lifted}
-use Rattle.rule_inline.proofs.TermLemmas.{lifted_by}
-use Rattle.rule_inline.proofs.StatementLemmas.{stmt_loops, row_loops, arm_loops, case_loops, then_told, Follows, ProcedureTells, value_told, goes, assign_told, copy_told, copy_all_told, set_told, cleared_shows, typed_place, some_place, alike_types, stays, failed_told, assert_told, leave_told, return_told}
-use Rattle.rule_inline.proofs.BranchLemmas.{call_told, last_told, one_told, one_of_is, labels_told, turns_told}
-use Rattle.std.proofs.lemmas.Bool.{eqb-true, eqb-false}
-use Rattle.std.proofs.lemmas.List.{reverse-append, length-reverse}
-use Rattle.std.specs.Prelude.{nat_eq, nat_le}
-use Rattle.rule_inline.specs.Presents.{at_nodes}
+use Rattle.rule_inline.proofs.TermLemmas.{value-Known}
+use Rattle.rule_inline.proofs.Outcome.{Tells, fails_first}
+use Rattle.rule_inline.proofs.PlaceLemmas.{Rep}
+use Rattle.rule_inline.proofs.TypeLemmas.{not_some}
+use Rattle.rule_inline.proofs.SceneLemmas.{at_frame}
+use Rattle.rule_inline.proofs.QuantifierLemmas.{tells_before}
+use Rattle.rule_inline.proofs.PartLemmas.{Here, ArgsAre, FunctionTells}
+use Rattle.murphi_typed.specs.Execution.{Ending, run, calls_of, call_of, called_scene, ended, entered as store_entered, formals_fit as store_formals_fit}
+use Rattle.rule_inline.proofs.ChangeLemmas.{calls_unwritten}
+use Rattle.rule_inline.proofs.EndLemmas.{Body, here_of, EndsWith, checked}
+use Rattle.rule_inline.proofs.StatementLemmas.{stmt_loops, ProcedureTells}
+use Rattle.std.specs.Prelude.{nat_eq}
 use Rattle.rule_inline.proofs.StatementLaw.{LoopsTell, tells_stmt}
 use Rattle.rule_inline.proofs.CallLemmas.{found_in, gifts_deeper, entered_rep, Decided, formals_decided, exit_result, procedure_left, FunctionLeft, function_left}
 
@@ -119,7 +82,7 @@ function_fine Q (r0 ∷ earlier) (first, rest) k r u found is site gifts =
     (λ there found'. passed _ _ (nat_eq k (length earlier)) there (function_fine Q earlier rest k r u found' is site gifts))
 
 module _ (binds : PlacingBinds) (fit : ValuesFitInBodies) (keep : BodiesKeepTypes) (results : FunctionsGiveResults) (enter : CalledBodiesAreTyped) (s : Cells) (P : Typed) (globals : are_variables P.kinds P.globals ≡ true) (Q : (n : _) → Site → Row_of-Stmt n → Type 0)
-  (loop_tells : (latest : List Routine) (types : Declared) → LoopsTell binds fit keep results s P latest types (calls_in latest) (fine_in Q latest) Q) where
+    (loop_tells : (latest : List Routine) (types : Declared) → LoopsTell binds fit keep results s P latest types (calls_in latest) (fine_in Q latest) Q) where
   -- a call by its number among the last routines of a list
   abbrev pub CallTells : List Routine → Type 0
   CallTells tail =
@@ -133,9 +96,9 @@ module _ (binds : PlacingBinds) (fit : ValuesFitInBodies) (keep : BodiesKeepType
       (λ left. (w : Value) × (left.result ≡ Some w) × (value_of h.scene.nodes s h.fr ((calls_in tail k (at_frame h.fr h.site) h.T gifts).change.now Result) ≡ w)))
 
   module _ (latest : List Routine) (types : Declared) (h : Here s P latest types) (r : Routine) (earlier : List Routine) (args : Arguments) (gs : List Given) (gifts : List Gift)
-    (known : LatestFit P earlier) (fits_r : routine_fits P (reverse earlier) r ≡ true) (all_functions : FunctionsFine Q earlier) (inner_calls : CallTells earlier)
-    (fits : arguments_fit h.scope r.formals args ≡ true) (was : arguments_of (calls_of latest) h.scene h.at h.cells args ≡ Got gs) (are : ArgsAre h.scene.nodes s h.scene.depth h.fr r.formals gifts gs)
-    (fine : stmt_loops (calls_in earlier) (fine_in Q earlier) Q (called_site (at_frame h.fr h.site) r.result gifts) r.body) where
+      (known : LatestFit P earlier) (fits_r : routine_fits P (reverse earlier) r ≡ true) (all_functions : FunctionsFine Q earlier) (inner_calls : CallTells earlier)
+      (fits : arguments_fit h.scope r.formals args ≡ true) (was : arguments_of (calls_of latest) h.scene h.at h.cells args ≡ Got gs) (are : ArgsAre h.scene.nodes s h.scene.depth h.fr r.formals gifts gs)
+      (fine : stmt_loops (calls_in earlier) (fine_in Q earlier) Q (called_site (at_frame h.fr h.site) r.result gifts) r.body) where
     abbrev types' : Declared
     types' = inner_types (suc h.scene.depth) r.formals r.locals types
 
@@ -160,7 +123,8 @@ module _ (binds : PlacingBinds) (fit : ValuesFitInBodies) (keep : BodiesKeepType
       sited = record { depth = ap suc h.sited.depth; bound = tt; formals = gifts_deeper h.scene.nodes s h.scene.depth h.fr r.formals gifts gs are };
       rep = subst (λ d. Rep h.scene.nodes s (suc h.scene.depth) h.fr (entered (suc d) gifts h.T) (store_entered (suc h.scene.depth) gs h.cells)) (sym h.sited.depth) (entered_rep h.scene.nodes s h.scene.depth h.fr r.formals gifts gs h.T h.cells are h.rep);
       staying = ap truth (value-Known h.scene.nodes s h.fr (v.Truth false));
-      exits = exit_result r.result }
+      exits = exit_result r.result;
+    }
 
     body_fits_r : stmt_fits (routine_scope P (reverse earlier) r) r.body ≡ true
     body_fits_r =
@@ -234,9 +198,10 @@ module _ (binds : PlacingBinds) (fit : ValuesFitInBodies) (keep : BodiesKeepType
               × ((u : Simple) → r.result ≡ Some u → Tells h.scene.nodes s h.fr (if b then call_of (calls_of earlier) r0 h.scene h.at gs h.cells else calls_of earlier k h.scene h.at gs h.cells) ((if b then called (calls_in earlier) r0 (at_frame h.fr h.site) h.T gifts else calls_in earlier k (at_frame h.fr h.site) h.T gifts).demands ++ demand ((if b then called (calls_in earlier) r0 (at_frame h.fr h.site) h.T gifts else calls_in earlier k (at_frame h.fr h.site) h.T gifts).change.now Leaving) ∷ [])
               (λ left. (w : Value) × (left.result ≡ Some w) × (value_of h.scene.nodes s h.fr ((if b then called (calls_in earlier) r0 (at_frame h.fr h.site) h.T gifts else calls_in earlier k (at_frame h.fr h.site) h.T gifts).change.now Result) ≡ w)))
           go false e a = absurd_false e
-          go true e a =
-              (λ none. call_procedure latest types h r0 earlier args gs gifts known fits_r rest inner_calls (subst (λ (q : Routine). arguments_fit h.scope q.formals args ≡ true) (sym same) fits) was (subst (λ (q : Routine). ArgsAre h.scene.nodes s h.scene.depth h.fr q.formals gifts gs) (sym same) are) a (ap (λ (q : Routine). q.result) same ∙ none),
-              λ u some. call_function latest types h r0 earlier args gs gifts known fits_r rest inner_calls (subst (λ (q : Routine). arguments_fit h.scope q.formals args ≡ true) (sym same) fits) was (subst (λ (q : Routine). ArgsAre h.scene.nodes s h.scene.depth h.fr q.formals gifts gs) (sym same) are) a u (ap (λ (q : Routine). q.result) same ∙ some))
+          go true e a = (
+            λ none. call_procedure latest types h r0 earlier args gs gifts known fits_r rest inner_calls (subst (λ (q : Routine). arguments_fit h.scope q.formals args ≡ true) (sym same) fits) was (subst (λ (q : Routine). ArgsAre h.scene.nodes s h.scene.depth h.fr q.formals gifts gs) (sym same) are) a (ap (λ (q : Routine). q.result) same ∙ none),
+            λ u some. call_function latest types h r0 earlier args gs gifts known fits_r rest inner_calls (subst (λ (q : Routine). arguments_fit h.scope q.formals args ≡ true) (sym same) fits) was (subst (λ (q : Routine). ArgsAre h.scene.nodes s h.scene.depth h.fr q.formals gifts gs) (sym same) are) a u (ap (λ (q : Routine). q.result) same ∙ some),
+          )
 
       at_earlier : CallTells earlier → nat_eq k (length earlier) ≡ false → slice_get (reverse earlier) k ≡ Some r → (r.result ≡ None → Tells h.scene.nodes s h.fr (calls_of (r0 ∷ earlier) k h.scene h.at gs h.cells) ((calls_in (r0 ∷ earlier) k (at_frame h.fr h.site) h.T gifts).demands) (λ left. Rep h.scene.nodes s h.scene.depth h.fr ((calls_in (r0 ∷ earlier) k (at_frame h.fr h.site) h.T gifts).change.now) left.cells))
           × ((u : Simple) → r.result ≡ Some u → Tells h.scene.nodes s h.fr (calls_of (r0 ∷ earlier) k h.scene h.at gs h.cells) ((calls_in (r0 ∷ earlier) k (at_frame h.fr h.site) h.T gifts).demands ++ demand ((calls_in (r0 ∷ earlier) k (at_frame h.fr h.site) h.T gifts).change.now Leaving) ∷ [])

@@ -1,24 +1,18 @@
 -- Expressions, designators and arguments: where one faults a demand of it is false for some nodes, else its term has
 -- its value. What functions do is given.
-use Rattle.std.proofs.Common.{◌≡◌, ℕ, zero, suc, ◌+◌, ◌<◌, Bool, true, false, not, ◌&&◌, ◌||◌, cond, List, [], ◌∷◌, ◌++◌, length, map, reverse, Option, None, Some, ◌⊎◌, inl, inr, refl, sym, ap, ◌∙◌, subst, append_assoc, append-nil}
-use Rattle.std.specs.Prelude.{pos, slice_get, option_map, option_and_then, is_some, if◌then◌else◌, unwrap_or}
-use Rattle.std.specs.List.{list_all, list_any}
-use Rattle.std.specs.Option.{option_map_or}
+use Rattle.std.proofs.Common.{◌≡◌, ℕ, ◌<◌, Bool, true, false, ◌&&◌, List, [], ◌∷◌, ◌++◌, length, map, reverse, Option, None, Some, inl, inr, refl, sym, ap, ◌∙◌, subst}
+use Rattle.std.specs.Prelude.{slice_get, option_map, option_and_then, is_some, unwrap_or}
 use Rattle.std.proofs.lemmas.Bool.{and_parts}
 use Rattle.std.proofs.lemmas.Option.{slice_get_within}
 use Rattle.term_core.specs.declared.value.Value.{Value}
 use Rattle.term_core.specs.declared.value.Value.TheVariants as v
-use Rattle.term_core.specs.declared.value.ArithOp.TheVariants as operation
 use Rattle.term_core.specs.declared.term.Term as t
 use Rattle.term_core.specs.declared.term.Term.{Term}
-use Rattle.term_core.specs.Nodes.{is_node, nodes}
-use Rattle.term_core.specs.Values.{truth, number, same_value}
-use Rattle.term_core.specs.Meaning.{Cells, value_of, holds_at}
+use Rattle.term_core.specs.Nodes.{is_node}
+use Rattle.term_core.specs.Values.{truth, same_value}
+use Rattle.term_core.specs.Meaning.{Cells, value_of}
 use Rattle.term_core.specs.Laws.{PlacingBinds}
 use Rattle.murphi_ast.specs.declared.token.Span.{Span}
-use Rattle.murphi_ast.specs.declared.expr.ChainOp.{ChainOp}
-use Rattle.murphi_ast.specs.declared.expr.ChainOp.TheVariants as op
-use Rattle.murphi_ast.specs.declared.expr.CompareOp.{CompareOp}
 use Rattle.murphi_ast.specs.declared.expr.CompareOp.TheVariants as compare
 use Rattle.murphi_typed.specs.declared.types.Simple.{Simple}
 use Rattle.murphi_typed.specs.declared.types.Simple.TheVariants as simple
@@ -37,27 +31,27 @@ use Rattle.murphi_typed.specs.declared.protocol.Routine.{Routine}
 use Rattle.murphi_typed.specs.declared.protocol.Formal.{Formal as DeclaredFormal}
 use Rattle.murphi_typed.specs.Forms.{NotForm, MinusForm, CompareForm, ImpliesForm, ChoiceForm, QuantifiedForm}
 use Rattle.murphi_typed.specs.Values.{is_value, values}
-use Rattle.murphi_typed.specs.Store.{Place, Contents, Cells as Store, cell_at, contents_at, only}
+use Rattle.murphi_typed.specs.Store.{Place, cell_at, contents_at, only}
 use Rattle.murphi_typed.specs.Outcome.{Outcome, Got, Fault, given, or_fault}
-use Rattle.murphi_typed.specs.Expressions.{Given, Filled, Standing, Scene, Left, Calls, as_truth, calculated, joined, compared, defined, over_all, with_bound, root_place, under, row_path, fitting, value_of as worked, chain_value as worked_chain, place_of, indices_of as worked_indices, arguments_of, row_arguments, argument_of}
+use Rattle.murphi_typed.specs.Expressions.{Given, Filled, Standing, Left, Calls, joined, defined, over_all, with_bound, root_place, under, row_path, fitting, value_of as worked, chain_value as worked_chain, place_of, indices_of as worked_indices, arguments_of, row_arguments, argument_of}
 use Rattle.murphi_typed.specs.Prefix.{is_over_nodes}
-use Rattle.murphi_typed.specs.WellTyped.{Scope, binding as scope_binding, numbers, widened, is_simple_type, root_type, simple_part, field_part, item_part, is_of, only_if, operand_type, comparable, first_of, rest_of, is_compound, may_write, root_of, given_value, given_compound, given_place, type_of, chain_type, place_type, selected_type, arguments_fit, row_fits, argument_fits}
-use Rattle.murphi_typed.specs.Keeping.{Declared, IsTypedBody}
+use Rattle.murphi_typed.specs.WellTyped.{Scope, binding as scope_binding, numbers, widened, is_simple_type, root_type, simple_part, field_part, item_part, is_of, only_if, operand_type, comparable, may_write, root_of, given_place, type_of, chain_type, place_type, selected_type, arguments_fit, row_fits, argument_fits}
+use Rattle.murphi_typed.specs.Keeping.{Declared}
 use Rattle.murphi_typed.specs.declared.protocol.Typed.{Typed}
 use Rattle.murphi_typed.specs.Execution.{calls_of}
 use Rattle.murphi_typed.specs.Laws.{ValuesFitInBodies}
-use Rattle.rule_inline.specs.Demands.{Demand, demand, under_test, binding}
-use Rattle.rule_inline.specs.Tables.{Leaving, Result, Terms, under_variable, Index, Spot, Shown, shown_at, read_of, only_term}
-use Rattle.rule_inline.specs.Parts.{Given as Gift, Filled as Filling, Standing as Placing, Site, with_value, with_variable, Valued, Placed, Indexed, Argued, Calls as TermCalls, fixed_values, undefined, is_defined, index_fits, whole, result_fits, calculated as calculated_term, joined as joined_term, compared as compared_term, after, negated, compared_values, implied, choice, over_values, terms_of, mark_of, place_mark, root_spot, index_over, valued_of, chain_of, placed_of, indices_of, argued_of, row_argued, one_argued, placed_under, with_calls, over_nodes, demands_of}
+use Rattle.rule_inline.specs.Demands.{Demand, demand, binding}
+use Rattle.rule_inline.specs.Tables.{Leaving, under_variable, Spot, shown_at, read_of, only_term}
+use Rattle.rule_inline.specs.Parts.{Given as Gift, Filled as Filling, Standing as Placing, with_value, with_variable, Valued, Argued, Calls as TermCalls, fixed_values, undefined, is_defined, index_fits, joined as joined_term, after, over_values, terms_of, mark_of, place_mark, root_spot, valued_of, chain_of, placed_of, indices_of, argued_of, row_argued, one_argued, placed_under, with_calls, over_nodes, demands_of}
 use Rattle.rule_inline.proofs.ValueLemmas.{absurd_false}
-use Rattle.rule_inline.proofs.TermLemmas.{value-Known, value-Not, value-And, value-Or, value-If, value-Same, value-Less, value-Quantified, is_true, length-one_more, append_nothing}
-use Rattle.rule_inline.proofs.Outcome.{Either, either_map, AllHold, SomeFails, Tells, tells_given, tells_then, tells_map, tells_test, tells_under, all_beside}
-use Rattle.rule_inline.proofs.PlaceLemmas.{NoNodes, Rep, IndexIs, Leads}
-use Rattle.rule_inline.proofs.WriteLemmas.{Shows, only_shows, Spots, place_shows}
-use Rattle.rule_inline.proofs.TypeLemmas.{not_some, some_one, only_parts, simples_one, of_type, not_undefined, defined_is, index_is, EachValue, are_values, values_fixed, index_leads}
-use Rattle.rule_inline.proofs.ArithLemmas.{number_value, tells_calculated, Storable}
-use Rattle.rule_inline.proofs.SceneLemmas.{Sound, sound_binding, typed_binding, GiftIs, GiftsAre, bound_there, rep_under, at_frame, inner, Sited, site_under, site_value, root_spots}
-use Rattle.rule_inline.proofs.QuantifierLemmas.{given_twice, tells_before, tells_after, tells_nodes, quantified, tells_values}
+use Rattle.rule_inline.proofs.TermLemmas.{value-Known, value-And, value-Or, value-Same, value-Quantified, is_true, length-one_more, append_nothing}
+use Rattle.rule_inline.proofs.Outcome.{Tells, tells_given, tells_then, tells_map}
+use Rattle.rule_inline.proofs.PlaceLemmas.{Leads}
+use Rattle.rule_inline.proofs.WriteLemmas.{only_shows, Spots, place_shows}
+use Rattle.rule_inline.proofs.TypeLemmas.{not_some, only_parts, of_type, are_values, values_fixed}
+use Rattle.rule_inline.proofs.ArithLemmas.{Storable}
+use Rattle.rule_inline.proofs.SceneLemmas.{sound_binding, typed_binding, bound_there, rep_under, at_frame, inner, site_under, site_value, root_spots}
+use Rattle.rule_inline.proofs.QuantifierLemmas.{given_twice, tells_nodes, quantified, tells_values}
 use Rattle.rule_inline.proofs.PartLemmas.{Here, ArgIs, ArgsAre, FunctionTells, widened_found, found_simple, bound_found, none_selected, none_chain, rooted, equal_types, comparable_types, operand_widened, row_more, value_typed, compound_typed, place_typed, given_into, given_no_simple, none_fits, each_map, leads_joined, tells_got, IsTold, IsTyped, told_not, told_minus, told_compared, told_implied, told_choice, told_chain, defined_told, index_told}
 
 -- what a function leaves is its result
@@ -101,7 +95,8 @@ module _ (binds : PlacingBinds) (fit : ValuesFitInBodies) (s : Cells) (P : Typed
     typed = typed_binding P latest types calls h.scope h.scene h.cells over w h.sound h.typed is fine;
     sound = sound_binding types calls routines h.scope h.scene h.cells over w h.sound is fine;
     sited = site_value s h.fr h.site h.scene w h.sited;
-    rep = h.rep }
+    rep = h.rep;
+  }
 
   abbrev pub here_node : (h : H) (n : ℕ) → is_node h.scene.nodes n ≡ true → H
   here_node h n is = record {
@@ -115,7 +110,8 @@ module _ (binds : PlacingBinds) (fit : ValuesFitInBodies) (s : Cells) (P : Typed
     typed = typed_binding P latest types calls h.scope h.scene h.cells simple.Node (v.Node n) h.sound h.typed is refl;
     sound = sound_binding types calls routines h.scope h.scene h.cells simple.Node (v.Node n) h.sound is refl;
     sited = site_under s h.fr h.site h.scene n h.sited;
-    rep = rep_under h.scene.nodes s h.scene.depth h.fr h.T h.cells n h.rep }
+    rep = rep_under h.scene.nodes s h.scene.depth h.fr h.T h.cells n h.rep;
+  }
 
   pub read_value : (h : H) (spot : Spot) (p : Place) → Spots h.scene.nodes s h.scene.depth h.fr spot p → value_of h.scene.nodes s h.fr (read_of (length h.fr) h.T spot) ≡ cell_at h.cells p
   read_value h spot p spots =
@@ -331,8 +327,10 @@ module _ (binds : PlacingBinds) (fit : ValuesFitInBodies) (s : Cells) (P : Typed
         one_told h d ds (Filling (place_mark (at_frame h.fr h.site) place) true (only_term (length h.fr) (read_of (length h.fr) h.T (placed_of tcalls (at_frame h.fr h.site) h.T place).spot))) ((placed_of tcalls (at_frame h.fr h.site) h.T place).demands) rest (argument_of calls h.scene h.at h.cells (argument.Copy place)) p
         (tells_then h.scene.nodes s h.fr ((placed_of tcalls (at_frame h.fr h.site) h.T place).demands) (place_of calls h.scene h.at h.cells place) (λ q. Filled (only (cell_at h.cells q))) (λ q. Spots h.scene.nodes s h.scene.depth h.fr (placed_of tcalls (at_frame h.fr h.site) h.T place).spot q × (place_of calls h.scene h.at h.cells place ≡ Got q)) _
         (tells_got h.scene.nodes s h.fr ((placed_of tcalls (at_frame h.fr h.site) h.T place).demands) (place_of calls h.scene h.at h.cells place) _ _ (tells_place place h (type.Simple w) is) (λ q was spots. (spots, was)))
-        (λ q both. (only_shows h.scene.nodes s h.fr (read_of (length h.fr) h.T (placed_of tcalls (at_frame h.fr h.site) h.T place).spot) (cell_at h.cells q) (read_value h (placed_of tcalls (at_frame h.fr h.site) h.T place).spot q both.0),
-        λ f into found_f simple_f. cell_storable h place q into both.1 (given_into (Some d) (option_map widened (simple_part (place_type h.scope place))) f into fits found_f simple_f)))) told
+        (λ q both. (
+          only_shows h.scene.nodes s h.fr (read_of (length h.fr) h.T (placed_of tcalls (at_frame h.fr h.site) h.T place).spot) (cell_at h.cells q) (read_value h (placed_of tcalls (at_frame h.fr h.site) h.T place).spot q both.0),
+          λ f into found_f simple_f. cell_storable h place q into both.1 (given_into (Some d) (option_map widened (simple_part (place_type h.scope place))) f into fits found_f simple_f),
+        ))) told
     tells_argument (argument.CopyAll place) h d ds fits rest p told =
         let (U, is) = compound_typed (Some d) (place_type h.scope place) fits in
         one_told h d ds (Filling None true (shown_at (length h.fr) h.T (placed_of tcalls (at_frame h.fr h.site) h.T place).spot)) ((placed_of tcalls (at_frame h.fr h.site) h.T place).demands) rest (argument_of calls h.scene h.at h.cells (argument.CopyAll place)) p

@@ -1,5 +1,5 @@
 -- Before anything is done the terms represent the state: each family of a global is read from its own cells.
-use Rattle.std.proofs.Common.{◌≡◌, ℕ, zero, suc, ◌+◌, ◌≤◌, Bool, true, false, ◌&&◌, cond, List, [], ◌∷◌, ◌++◌, length, map, Option, None, Some, ◌⊎◌, inl, inr, refl, sym, ap, ◌∙◌, subst, arith}
+use Rattle.std.proofs.Common.{◌≡◌, ℕ, zero, suc, ◌+◌, Bool, true, false, ◌&&◌, List, [], ◌∷◌, ◌++◌, length, map, Option, None, Some, refl, sym, ap, ◌∙◌, arith}
 use Rattle.std.specs.Prelude.{if◌then◌else◌, nat_eq, slice_get, IsTrue}
 use Rattle.std.specs.List.{flat_map, list_all}
 use Rattle.std.specs.Option.{option_map_or}
@@ -7,7 +7,6 @@ use Rattle.std.specs.Str.{bytes_eq}
 use Rattle.std.proofs.lemmas.Bool.{and_parts}
 use Rattle.term_core.specs.declared.value.Value.{Value}
 use Rattle.term_core.specs.declared.value.Value.TheVariants as v
-use Rattle.term_core.specs.declared.term.Term as t
 use Rattle.term_core.specs.declared.term.Term.{Term}
 use Rattle.term_core.specs.declared.machine.CellFamily.{CellFamily}
 use Rattle.term_core.specs.Lists.{list_indices}
@@ -15,7 +14,7 @@ use Rattle.term_core.specs.Nodes.{is_node, nodes}
 use Rattle.term_core.specs.Values.{same_value}
 use Rattle.term_core.specs.Variables.{is_no_node}
 use Rattle.term_core.specs.Meaning.{Cells, value_of, index_of, with_index, cell_at}
-use Rattle.term_core.specs.Cells.{cell_value, filled, table, is_cell}
+use Rattle.term_core.specs.Cells.{cell_value, filled, is_cell}
 use Rattle.murphi_typed.specs.declared.types.Simple.{Simple}
 use Rattle.murphi_typed.specs.declared.types.Simple.TheVariants as simple
 use Rattle.murphi_typed.specs.declared.protocol.Typed.{Typed}
@@ -24,7 +23,7 @@ use Rattle.murphi_typed.specs.Values.{values}
 use Rattle.murphi_typed.specs.Families.{Path, Cell, Way, ways, axes_of, path_of, choices, cells_on, cells_from, cells}
 use Rattle.murphi_typed.specs.Steps.{State, same_list, is_cell as is_store_cell, listed, cells_of}
 use Rattle.murphi_typed.specs.Store.{Owner, Global, Local, Formal, Cells as Store, same_owner}
-use Rattle.rule_inline.specs.Tables.{Key, holes, Slot, Family, Leaving, Result, variables}
+use Rattle.rule_inline.specs.Tables.{Key, holes, variables}
 use Rattle.rule_inline.specs.Parts.{undefined}
 use Rattle.rule_inline.specs.Presents.{at_nodes, cell_in, machine_cells, state_over}
 use Rattle.rule_inline.specs.Machine.{fixed, CellsOf, family_of, families_of, cell_family, slot_of, same_part, is_slot, number_from, number_of, own_read, first_terms, trans}

@@ -1,14 +1,11 @@
 -- The pieces of a formula are all true exactly where the formula holds, where loops over nodes are given.
-use Rattle.std.proofs.Common.{◌≡◌, ℕ, zero, suc, ◌+◌, ◌<◌, ◌≤◌, Bool, true, false, ◌&&◌, cond, List, [], ◌∷◌, ◌++◌, length, map, reverse, Option, None, Some, ◌⊎◌, inl, inr, refl, sym, ap, ◌∙◌, subst, arith, append_assoc}
-use Rattle.std.specs.Prelude.{◌↔◌, if◌then◌else◌, slice_get, IsTrue}
-use Rattle.std.specs.List.{All, flat_map, list_all}
+use Rattle.std.proofs.Common.{◌≡◌, ℕ, zero, suc, ◌+◌, true, ◌&&◌, List, [], ◌∷◌, ◌++◌, length, map, reverse, inl, inr, refl, sym, ap, ◌∙◌, subst, arith}
+use Rattle.std.specs.Prelude.{◌↔◌}
+use Rattle.std.specs.List.{All, list_all}
 use Rattle.std.proofs.lemmas.Bool.{and_parts}
 use Rattle.std.proofs.lemmas.List.{length-append}
 use Rattle.std.proofs.lemmas.List.Elements.{All-nil, All-cons, All-head, All-tail}
 use Rattle.term_core.specs.declared.value.Value.{Value}
-use Rattle.term_core.specs.declared.value.Value.TheVariants as v
-use Rattle.term_core.specs.declared.term.Term.{Term}
-use Rattle.term_core.specs.declared.machine.Piece.{Piece}
 use Rattle.term_core.specs.Nodes.{is_node}
 use Rattle.term_core.specs.Values.{truth}
 use Rattle.term_core.specs.Meaning.{Cells, value_of}
@@ -17,8 +14,6 @@ use Rattle.term_core.specs.Firing.{IsTrueForAll, AllPiecesHold}
 use Rattle.term_core.specs.Laws.{PlacingBinds}
 use Rattle.murphi_typed.specs.declared.types.Kind.{Kind}
 use Rattle.murphi_typed.specs.declared.types.Simple.TheVariants as simple
-use Rattle.murphi_typed.specs.declared.expr.Arguments.{Arguments}
-use Rattle.murphi_typed.specs.declared.protocol.Parameter.{Parameter}
 use Rattle.murphi_typed.specs.declared.protocol.Routine.{Routine}
 use Rattle.murphi_typed.specs.declared.protocol.TypedFormula.{TypedFormula}
 use Rattle.murphi_typed.specs.declared.protocol.Typed.{Typed}
@@ -26,19 +21,18 @@ use Rattle.murphi_typed.specs.declared.stmt.Stmt.{Row_of-Stmt}
 use Rattle.murphi_typed.specs.Outcome.{Outcome, Got, Fault}
 use Rattle.murphi_typed.specs.Expressions.{value_of as worked}
 use Rattle.murphi_typed.specs.Steps.{State, cells_of, are_parameters, outermost, calls_in as store_calls, no_place, is_true as is_got_true, Holds}
-use Rattle.murphi_typed.specs.Execution.{calls_of as store_calls_of}
 use Rattle.murphi_typed.specs.WellTyped.{is_well_typed, with_kinds, formula_fits, are_variables, are_parameter_types, top_scope, is_of, type_of, routines_fit, start_fits, rule_fits}
 use Rattle.murphi_typed.specs.Keeping.{Declared, IsState, IsTypedBody, top_types}
 use Rattle.murphi_typed.specs.Laws.{ValuesFitInBodies, BodiesKeepTypes, FunctionsGiveResults, CalledBodiesAreTyped, TopBodiesAreTyped}
 use Rattle.rule_inline.specs.Demands.{Demand, piece_of}
-use Rattle.rule_inline.specs.Tables.{Key, holes, Terms}
-use Rattle.rule_inline.specs.Parts.{Valued, Site, Calls, valued_of}
+use Rattle.rule_inline.specs.Tables.{Key, holes}
+use Rattle.rule_inline.specs.Parts.{Valued, Site, valued_of}
 use Rattle.rule_inline.specs.Bodies.{calls_in}
 use Rattle.rule_inline.specs.Presents.{at_nodes, nodes_in, state_over}
 use Rattle.rule_inline.specs.Machine.{fixed, instances, more_binders, pieces_with, pieces_at, top_site, top_terms, first_terms, families_of, calls_of, formula_pieces, trans}
 use Rattle.rule_inline.proofs.ValueLemmas.{absurd_false}
-use Rattle.rule_inline.proofs.TermLemmas.{and_of, append_nothing}
-use Rattle.rule_inline.proofs.Outcome.{Tells, AllHold, SomeFails, Holds as DemandHolds, Fails, Nodes}
+use Rattle.rule_inline.proofs.TermLemmas.{and_of}
+use Rattle.rule_inline.proofs.Outcome.{AllHold, SomeFails}
 use Rattle.rule_inline.proofs.PlaceLemmas.{Rep, nodes_joined}
 use Rattle.rule_inline.proofs.TypeLemmas.{of_type}
 use Rattle.rule_inline.proofs.PartLemmas.{Here, FunctionTells, IsTold}
@@ -46,7 +40,7 @@ use Rattle.rule_inline.proofs.ExpressionLaw.{tells_value}
 use Rattle.rule_inline.proofs.SceneLemmas.{at_frame}
 use Rattle.rule_inline.proofs.StatementLaw.{LoopsTell}
 use Rattle.rule_inline.proofs.CallLaw.{fine_in, FunctionsFine, function_fine, calls_told}
-use Rattle.rule_inline.proofs.FirstTerms.{FilledValues, Each, each_weaker, each_of, each_map, each_under, each_flat, each_flat_parts, state_rep}
+use Rattle.rule_inline.proofs.FirstTerms.{FilledValues, Each, each_weaker, each_map, each_under, each_flat, each_flat_parts, state_rep}
 use Rattle.rule_inline.proofs.ParameterLemmas.{at_instance, instances_fit, Fits, choice_is, parameters_bound}
 
 -- Lists
@@ -97,31 +91,34 @@ module _ (N : ℕ) (c : Cells) where
       (λ bound many are. p (ns ++ bound) (length-append ns bound ∙ omega (arith, long, many)) (nodes_joined N c ns bound nodes are), demands_from count ns long nodes qs e)
 
   says : (count : ℕ) (e : Valued) → Each (IsTrueForAll N c []) (pieces_with count e) → Says count e
-  says count e (own, rest) ns long nodes =
-      (own ns (long ∙ omega arith) nodes,
-      demands_from count ns long nodes e.demands (each_under (λ q. IsTrueForAll N c [] (more_binders count q)) piece_of e.demands (each_under (IsTrueForAll N c []) (more_binders count) (map piece_of e.demands) rest)))
+  says count e (own, rest) ns long nodes = (
+    own ns (long ∙ omega arith) nodes,
+    demands_from count ns long nodes e.demands (each_under (λ q. IsTrueForAll N c [] (more_binders count q)) piece_of e.demands (each_under (IsTrueForAll N c []) (more_binders count) (map piece_of e.demands) rest)),
+  )
 
   demands_to : (count : ℕ) (qs : List Demand) → ((ns : List ℕ) → length ns ≡ count → list_all (is_node N) ns ≡ true → AllHold N c ns qs) → Each (λ q. IsTrueForAll N c [] (more_binders count (piece_of q))) qs
   demands_to count [] all = tt
-  demands_to count (q ∷ qs) all =
-      ((λ bound long nodes.
-      let (ns, more, is, first, rest) = split_at count q.binders bound long in
-      let (a, b) = nodes_first N ns more (ap (list_all (is_node N)) (sym is) ∙ nodes) in
-      ap (λ fr. truth (value_of N c fr (piece_of q).body)) is ∙ (all ns first a).0 more rest b),
-      demands_to count qs (λ ns long nodes. (all ns long nodes).1))
+  demands_to count (q ∷ qs) all = (
+    (λ bound long nodes.
+        let (ns, more, is, first, rest) = split_at count q.binders bound long in
+        let (a, b) = nodes_first N ns more (ap (list_all (is_node N)) (sym is) ∙ nodes) in
+        ap (λ fr. truth (value_of N c fr (piece_of q).body)) is ∙ (all ns first a).0 more rest b),
+    demands_to count qs (λ ns long nodes. (all ns long nodes).1),
+  )
 
   said : (count : ℕ) (e : Valued) → Says count e → Each (IsTrueForAll N c []) (pieces_with count e)
-  said count e all =
-      ((λ bound long nodes. (all bound (long ∙ omega arith) nodes).0),
-      each_map (IsTrueForAll N c []) (more_binders count) (map piece_of e.demands) (each_map (λ q. IsTrueForAll N c [] (more_binders count q)) piece_of e.demands (demands_to count e.demands (λ ns long nodes. (all ns long nodes).1))))
+  said count e all = (
+    (λ bound long nodes. (all bound (long ∙ omega arith) nodes).0),
+    each_map (IsTrueForAll N c []) (more_binders count) (map piece_of e.demands) (each_map (λ q. IsTrueForAll N c [] (more_binders count q)) piece_of e.demands (demands_to count e.demands (λ ns long nodes. (all ns long nodes).1))),
+  )
 
 -- Formulas
 
 module _ (binds : PlacingBinds) (fit : ValuesFitInBodies) (keep : BodiesKeepTypes) (results : FunctionsGiveResults) (enter : CalledBodiesAreTyped) (top : TopBodiesAreTyped) (tables : FilledValues)
-  (N : ℕ) (T : Typed) (more : List Kind) (s : State) (well : is_well_typed (with_kinds T more) ≡ true) (state : IsState N T s)
-  (Q : (n : _) → Site → Row_of-Stmt n → Type 0)
-  (loop_tells : (latest : List Routine) (types : Declared) → LoopsTell binds fit keep results (cell_value N (trans T).families (state_over N T (trans T).families s)) (with_kinds T more) latest types (calls_in latest) (fine_in Q latest) Q)
-  (fine : FunctionsFine Q (reverse T.routines)) where
+    (N : ℕ) (T : Typed) (more : List Kind) (s : State) (well : is_well_typed (with_kinds T more) ≡ true) (state : IsState N T s)
+    (Q : (n : _) → Site → Row_of-Stmt n → Type 0)
+    (loop_tells : (latest : List Routine) (types : Declared) → LoopsTell binds fit keep results (cell_value N (trans T).families (state_over N T (trans T).families s)) (with_kinds T more) latest types (calls_in latest) (fine_in Q latest) Q)
+    (fine : FunctionsFine Q (reverse T.routines)) where
   abbrev cells : Cells
   cells = cell_value N (trans T).families (state_over N T (trans T).families s)
 
@@ -161,9 +158,11 @@ module _ (binds : PlacingBinds) (fit : ValuesFitInBodies) (keep : BodiesKeepType
             lengths = typed.lengths;
             results = results P latest (top_types P []) (top_scope P [] f.params) (outermost N (at_nodes key ns)) (cells_of N T s) typed;
             kept = typed.kept;
-            known = typed.routines };
+            known = typed.routines;
+          };
           sited = record { depth = refl; bound = parameters_bound N cells key [] ns long; formals = tt };
-          rep = subst (λ n. Rep N cells 0 ns (first_terms (families_of T) n) (cells_of N T s)) long (state_rep tables N T s 0 ns) }
+          rep = subst (λ n. Rep N cells 0 ns (first_terms (families_of T) n) (cells_of N T s)) long (state_rep tables N T s 0 ns);
+        }
 
     abbrev valued : Key → Valued
     valued key = valued_of (calls_of T) (top_site key) (top_terms T key) f.body

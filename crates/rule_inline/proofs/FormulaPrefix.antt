@@ -1,7 +1,6 @@
 -- The pieces of a formula have no more binders than its prefix in the source.
-use Rattle.std.proofs.Common.{◌≡◌, ℕ, zero, suc, ◌+◌, ◌≤◌, max, Bool, true, false, cond, List, [], ◌∷◌, ◌++◌, length, map, reverse, Option, None, Some, refl, sym, ap, ◌∙◌, subst, arith}
-use Rattle.std.specs.Prelude.{if◌then◌else◌}
-use Rattle.std.specs.List.{All, flat_map, count_by, sum_by}
+use Rattle.std.proofs.Common.{◌≡◌, ℕ, ◌+◌, ◌≤◌, max, true, false, cond, List, [], ◌∷◌, map, reverse, refl, sym, ap, ◌∙◌, arith}
+use Rattle.std.specs.List.{All, flat_map}
 use Rattle.std.proofs.lemmas.List.Elements.{All-nil, All-cons, All-head, All-tail, All-append, All-map}
 use Rattle.std.proofs.lemmas.List.Sums.{sum_by-cons}
 use Rattle.term_core.specs.declared.value.Value.{Value}
@@ -11,15 +10,13 @@ use Rattle.term_core.specs.Nodes.{nodes, nodes_from}
 use Rattle.murphi_typed.specs.declared.types.Simple.{Simple}
 use Rattle.murphi_typed.specs.declared.types.Simple.TheVariants as simple
 use Rattle.murphi_typed.specs.declared.protocol.Parameter.{Parameter}
-use Rattle.murphi_typed.specs.declared.protocol.TypedFormula.{TypedFormula}
-use Rattle.murphi_typed.specs.declared.protocol.Typed.{Typed}
 use Rattle.murphi_typed.specs.Values.{values}
 use Rattle.murphi_typed.specs.Families.{choices}
 use Rattle.murphi_typed.specs.Prefix.{is_over_nodes, node_parameters, depth_of, up, routine_depths, formula_prefix}
 use Rattle.rule_inline.specs.Demands.{Demand, piece_of}
 use Rattle.rule_inline.specs.Tables.{Key, holes}
 use Rattle.rule_inline.specs.Parts.{Valued, valued_of}
-use Rattle.rule_inline.specs.Machine.{fixed, instances, more_binders, pieces_with, pieces_at, top_site, top_terms, calls_of, formula_pieces}
+use Rattle.rule_inline.specs.Machine.{fixed, instances, more_binders, pieces_with, pieces_at, top_site, top_terms, calls_of}
 use Rattle.rule_inline.specs.Laws.{PiecesWithinPrefix}
 use Rattle.rule_inline.proofs.PrefixLemmas.{Within, value_within, calls_within}
 

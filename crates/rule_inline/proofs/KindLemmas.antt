@@ -1,6 +1,6 @@
 -- What is well typed stays so where there are more kinds.
-use Rattle.std.proofs.Common.{◌≡◌, ℕ, zero, suc, Bool, true, false, not, ◌&&◌, List, [], ◌∷◌, ◌++◌, length, map, Option, None, Some, refl, sym, ap, ◌∙◌, subst}
-use Rattle.std.specs.Prelude.{slice_get, option_map, option_and_then, is_some, nat_lt, nat_le}
+use Rattle.std.proofs.Common.{◌≡◌, ℕ, zero, suc, Bool, true, false, not, ◌&&◌, List, [], ◌∷◌, ◌++◌, Option, None, Some, refl, sym, ap, ◌∙◌}
+use Rattle.std.specs.Prelude.{slice_get, option_map, option_and_then, is_some}
 use Rattle.std.specs.List.{list_all}
 use Rattle.std.specs.Option.{option_map_or}
 use Rattle.std.proofs.lemmas.Bool.{and_parts}
@@ -33,7 +33,7 @@ use Rattle.murphi_typed.specs.declared.protocol.Formal.{Formal as DeclaredFormal
 use Rattle.murphi_typed.specs.Forms.{NotForm, MinusForm, CompareForm, ImpliesForm, ChoiceForm, QuantifiedForm, ArrayForm}
 use Rattle.murphi_typed.specs.declared.stmt.Stmt as st
 use Rattle.murphi_typed.specs.declared.stmt.Stmt.{Stmt, Row_of-Stmt, end_of-Stmt, more_of-Stmt, Row_of-Arm, end_of-Arm, more_of-Arm, Row_of-Case, end_of-Case, more_of-Case}
-use Rattle.murphi_typed.specs.WellTyped.{numbers, widened, is_listed, is_scalarset, is_simple_type, row_field, is_type, are_fields, Scope, Exit, AtEnd, ByReturn, WithValue, binding, root_type, is_function, may_write, root_of, simple_part, field_part, item_part, is_of, only_if, enum_type, known_type, operand_type, comparable, given_place, given_compound, given_value, place_fits, is_compound, same_type, first_of, rest_of, type_of, chain_type, place_type, selected_type, arguments_fit, row_fits, argument_fits, is_cell_of, holds_values_of, are_alike, labels_fit, is_procedure, returns, stmt_fits, body_fits, arms_fit, cases_fit, are_variables, are_parameter_types, top_scope, routine_scope, formal_allowed, routine_fits, routines_fit, guard_fits, rule_fits, start_fits, with_kinds, formula_fits, is_well_typed}
+use Rattle.murphi_typed.specs.WellTyped.{numbers, widened, is_listed, is_scalarset, is_simple_type, row_field, is_type, are_fields, Scope, Exit, AtEnd, ByReturn, WithValue, binding, root_type, is_function, may_write, root_of, simple_part, field_part, item_part, is_of, only_if, enum_type, known_type, operand_type, comparable, given_place, given_compound, given_value, is_compound, same_type, type_of, chain_type, place_type, selected_type, arguments_fit, row_fits, argument_fits, is_cell_of, holds_values_of, are_alike, labels_fit, returns, stmt_fits, body_fits, arms_fit, cases_fit, are_variables, are_parameter_types, top_scope, routine_scope, formal_allowed, routine_fits, routines_fit, guard_fits, rule_fits, start_fits, with_kinds, formula_fits, is_well_typed}
 use Rattle.rule_inline.proofs.ValueLemmas.{absurd_false}
 use Rattle.rule_inline.proofs.TermLemmas.{and_of}
 use Rattle.rule_inline.proofs.TypeLemmas.{not_some}

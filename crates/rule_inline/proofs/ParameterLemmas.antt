@@ -1,13 +1,10 @@
 -- Parameters: each choice of values is an instance with nodes in its holes, and the other way round.
-use Rattle.std.proofs.Common.{◌≡◌, ℕ, zero, suc, ◌+◌, ◌<◌, ◌≤◌, Bool, true, false, ◌&&◌, cond, List, [], ◌∷◌, ◌++◌, length, map, Option, None, Some, ◌⊎◌, inl, inr, refl, sym, ap, ◌∙◌, subst, arith, append_assoc}
-use Rattle.std.specs.Prelude.{if◌then◌else◌, slice_get}
-use Rattle.std.specs.List.{flat_map, list_all}
+use Rattle.std.proofs.Common.{◌≡◌, ℕ, suc, Bool, true, false, List, [], ◌∷◌, ◌++◌, length, map, Option, None, Some, inl, inr, refl, sym, ap, ◌∙◌, subst, arith, append_assoc}
+use Rattle.std.specs.List.{list_all}
 use Rattle.std.proofs.lemmas.Bool.{and_parts}
 use Rattle.std.proofs.lemmas.List.{length-append}
 use Rattle.term_core.specs.declared.value.Value.{Value}
 use Rattle.term_core.specs.declared.value.Value.TheVariants as v
-use Rattle.term_core.specs.declared.term.Term as t
-use Rattle.term_core.specs.declared.term.Term.{Term}
 use Rattle.term_core.specs.Nodes.{is_node}
 use Rattle.term_core.specs.Variables.{is_no_node}
 use Rattle.term_core.specs.Meaning.{Cells}
@@ -24,7 +21,6 @@ use Rattle.rule_inline.specs.Presents.{at_nodes, nodes_in}
 use Rattle.rule_inline.specs.Machine.{fixed, instances, parameter_terms}
 use Rattle.rule_inline.proofs.ValueLemmas.{absurd_false}
 use Rattle.rule_inline.proofs.TermLemmas.{value-Known, and_of}
-use Rattle.rule_inline.proofs.Outcome.{Nodes}
 use Rattle.rule_inline.proofs.PlaceLemmas.{Has, variable_there}
 use Rattle.rule_inline.proofs.TypeLemmas.{in_values, EachValue, are_values, values_fixed, fixed_no_nodes}
 use Rattle.rule_inline.proofs.SceneLemmas.{BoundAre}
@@ -160,7 +156,9 @@ module _ (N : ℕ) (c : Cells) where
   parameters_bound [] front ns long = tt
   parameters_bound (Some w ∷ key) front ns long = (value-Known N c (front ++ ns) w, tt, parameters_bound key front ns long)
   parameters_bound (None ∷ key) front [] long = absurd (omega (arith, long))
-  parameters_bound (None ∷ key) front (n ∷ ns) long =
-      (variable_there N c front n ns, (let l = length-append front (n ∷ ns) in omega (arith, l)),
-      subst (λ fr. BoundAre N c fr (parameter_terms (suc (length front)) key) (at_nodes key ns)) (append_assoc front (n ∷ []) ns)
-      (subst (λ k. BoundAre N c ((front ++ n ∷ []) ++ ns) (parameter_terms k key) (at_nodes key ns)) (length-append front (n ∷ []) ∙ omega arith) (parameters_bound key (front ++ n ∷ []) ns (omega (arith, long)))))
+  parameters_bound (None ∷ key) front (n ∷ ns) long = (
+    variable_there N c front n ns,
+    (let l = length-append front (n ∷ ns) in omega (arith, l)),
+    subst (λ fr. BoundAre N c fr (parameter_terms (suc (length front)) key) (at_nodes key ns)) (append_assoc front (n ∷ []) ns)
+        (subst (λ k. BoundAre N c ((front ++ n ∷ []) ++ ns) (parameter_terms k key) (at_nodes key ns)) (length-append front (n ∷ []) ∙ omega arith) (parameters_bound key (front ++ n ∷ []) ns (omega (arith, long)))),
+  )

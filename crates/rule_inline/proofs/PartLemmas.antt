@@ -1,20 +1,16 @@
 -- Expressions, designators and arguments: where one faults a demand of it is false for some nodes, else its term has
 -- its value. What routines do is given.
-use Rattle.std.proofs.Common.{◌≡◌, ℕ, zero, suc, ◌+◌, ◌<◌, Bool, true, false, not, ◌&&◌, ◌||◌, cond, List, [], ◌∷◌, ◌++◌, length, map, reverse, Option, None, Some, ◌⊎◌, inl, inr, refl, sym, ap, ◌∙◌, subst, append_assoc, append-nil}
-use Rattle.std.specs.Prelude.{pos, slice_get, option_map, option_and_then, is_some, if◌then◌else◌, unwrap_or}
-use Rattle.std.specs.List.{list_all, list_any}
+use Rattle.std.proofs.Common.{◌≡◌, ℕ, Bool, true, false, not, ◌&&◌, ◌||◌, cond, List, [], ◌∷◌, ◌++◌, length, map, reverse, Option, None, Some, refl, sym, ap, ◌∙◌}
+use Rattle.std.specs.Prelude.{pos, slice_get, option_map, is_some, if◌then◌else◌}
 use Rattle.std.specs.Option.{option_map_or}
 use Rattle.std.proofs.lemmas.Bool.{and_parts}
-use Rattle.std.proofs.lemmas.Option.{slice_get_within}
 use Rattle.term_core.specs.declared.value.Value.{Value}
 use Rattle.term_core.specs.declared.value.Value.TheVariants as v
 use Rattle.term_core.specs.declared.value.ArithOp.TheVariants as operation
 use Rattle.term_core.specs.declared.term.Term as t
 use Rattle.term_core.specs.declared.term.Term.{Term}
-use Rattle.term_core.specs.Nodes.{is_node, nodes}
-use Rattle.term_core.specs.Values.{truth, number, same_value}
-use Rattle.term_core.specs.Meaning.{Cells, value_of, holds_at}
-use Rattle.term_core.specs.Laws.{PlacingBinds}
+use Rattle.term_core.specs.Values.{truth}
+use Rattle.term_core.specs.Meaning.{Cells, value_of}
 use Rattle.murphi_ast.specs.declared.token.Span.{Span}
 use Rattle.murphi_ast.specs.declared.expr.ChainOp.{ChainOp}
 use Rattle.murphi_ast.specs.declared.expr.ChainOp.TheVariants as op
@@ -24,40 +20,33 @@ use Rattle.murphi_typed.specs.declared.types.Simple.{Simple}
 use Rattle.murphi_typed.specs.declared.types.Simple.TheVariants as simple
 use Rattle.murphi_typed.specs.declared.types.AnyType as type
 use Rattle.murphi_typed.specs.declared.types.AnyType.{AnyType}
-use Rattle.murphi_typed.specs.declared.expr.Root.{Root}
-use Rattle.murphi_typed.specs.declared.expr.Expr as x
-use Rattle.murphi_typed.specs.declared.expr.Expr.{Expr, end_of-Expr, more_of-Expr, Row_of-Link, end_of-Link, more_of-Link}
-use Rattle.murphi_typed.specs.declared.expr.Designator as d
-use Rattle.murphi_typed.specs.declared.expr.Designator.{Designator, Row_of-Selector, end_of-Selector, more_of-Selector}
+use Rattle.murphi_typed.specs.declared.expr.Expr.{Row_of-Link, end_of-Link, more_of-Link}
+use Rattle.murphi_typed.specs.declared.expr.Designator.{Row_of-Selector, end_of-Selector, more_of-Selector}
 use Rattle.murphi_typed.specs.declared.expr.Selector as select
-use Rattle.murphi_typed.specs.declared.expr.Arguments as a
-use Rattle.murphi_typed.specs.declared.expr.Arguments.{Arguments, Row_of-Argument, end_of-Argument, more_of-Argument}
+use Rattle.murphi_typed.specs.declared.expr.Arguments.{Arguments, Row_of-Argument, more_of-Argument}
 use Rattle.murphi_typed.specs.declared.expr.Argument as argument
 use Rattle.murphi_typed.specs.declared.protocol.Routine.{Routine}
 use Rattle.murphi_typed.specs.declared.protocol.Formal.{Formal as DeclaredFormal}
-use Rattle.murphi_typed.specs.Forms.{NotForm, MinusForm, CompareForm, ImpliesForm, ChoiceForm, QuantifiedForm}
-use Rattle.murphi_typed.specs.Values.{is_value, values}
-use Rattle.murphi_typed.specs.Store.{Place, Contents, Cells as Store, cell_at, contents_at, only}
-use Rattle.murphi_typed.specs.Outcome.{Outcome, Got, Fault, given, or_fault}
-use Rattle.murphi_typed.specs.Expressions.{Given, Filled, Standing, Scene, Left, Calls, as_truth, calculated, joined, compared, defined, over_all, with_bound, root_place, under, row_path, fitting, value_of as worked, chain_value as worked_chain, place_of, indices_of as worked_indices, arguments_of, row_arguments, argument_of}
+use Rattle.murphi_typed.specs.Values.{is_value}
+use Rattle.murphi_typed.specs.Store.{Contents, Cells as Store}
+use Rattle.murphi_typed.specs.Outcome.{Outcome, Got, Fault, given}
+use Rattle.murphi_typed.specs.Expressions.{Given, Filled, Standing, Scene, as_truth, calculated, joined, compared, defined, fitting, arguments_of}
 use Rattle.murphi_typed.specs.Execution.{simple_type, calls_of}
-use Rattle.murphi_typed.specs.Prefix.{is_over_nodes}
-use Rattle.murphi_typed.specs.WellTyped.{Scope, binding as scope_binding, numbers, widened, is_simple_type, root_type, simple_part, field_part, item_part, is_of, only_if, operand_type, comparable, first_of, rest_of, is_compound, may_write, root_of, place_fits, given_value, given_compound, given_place, type_of, chain_type, place_type, selected_type, arguments_fit, row_fits, argument_fits}
+use Rattle.murphi_typed.specs.WellTyped.{Scope, numbers, widened, simple_part, item_part, is_of, only_if, operand_type, comparable, first_of, rest_of, is_compound, may_write, root_of, place_fits, given_value, given_compound, given_place, type_of, chain_type, selected_type, arguments_fit, row_fits, argument_fits}
 use Rattle.murphi_typed.specs.Keeping.{Declared, IsTypedBody}
 use Rattle.murphi_typed.specs.declared.protocol.Typed.{Typed}
-use Rattle.murphi_typed.specs.Laws.{ValuesFitInBodies}
-use Rattle.rule_inline.specs.Demands.{Demand, demand, under_test, binding}
-use Rattle.rule_inline.specs.Tables.{Leaving, Result, Terms, under_variable, Index, Spot, Shown, shown_at, read_of, only_term}
-use Rattle.rule_inline.specs.Parts.{Given as Gift, Filled as Filling, Standing as Placing, Site, with_value, with_variable, Valued, Placed, Indexed, Argued, Calls as TermCalls, fixed_values, undefined, is_defined, index_fits, whole, result_fits, calculated as calculated_term, joined as joined_term, compared as compared_term, after, negated, compared_values, implied, choice, over_values, terms_of, mark_of, place_mark, root_spot, index_over, valued_of, chain_of, placed_of, indices_of, argued_of, row_argued}
+use Rattle.rule_inline.specs.Demands.{Demand, demand, under_test}
+use Rattle.rule_inline.specs.Tables.{Leaving, Result, Terms, Index}
+use Rattle.rule_inline.specs.Parts.{Given as Gift, Filled as Filling, Standing as Placing, Site, Valued, Calls as TermCalls, is_defined, index_fits, whole, result_fits, calculated as calculated_term, joined as joined_term, compared as compared_term, after, negated, compared_values, implied, choice, index_over}
 use Rattle.rule_inline.proofs.ValueLemmas.{absurd_false}
-use Rattle.rule_inline.proofs.TermLemmas.{value-Known, value-Not, value-And, value-Or, value-If, value-Same, value-Less, value-Quantified, is_true, length-one_more, append_nothing}
-use Rattle.rule_inline.proofs.Outcome.{Either, either_map, AllHold, SomeFails, Tells, tells_given, tells_then, tells_map, tells_test, tells_under, all_beside}
-use Rattle.rule_inline.proofs.PlaceLemmas.{NoNodes, Rep, IndexIs, Leads}
-use Rattle.rule_inline.proofs.WriteLemmas.{Shows, only_shows, Spots, place_shows}
-use Rattle.rule_inline.proofs.TypeLemmas.{not_some, some_one, only_parts, simples_one, of_type, not_undefined, defined_is, index_is, EachValue, are_values, values_fixed, index_leads}
+use Rattle.rule_inline.proofs.TermLemmas.{value-Known, value-Not, value-And, value-Or, value-If, value-Same, value-Less, is_true}
+use Rattle.rule_inline.proofs.Outcome.{Either, Tells, tells_given, tells_then, tells_map, tells_test, tells_under, all_beside}
+use Rattle.rule_inline.proofs.PlaceLemmas.{Rep, IndexIs, Leads}
+use Rattle.rule_inline.proofs.WriteLemmas.{Shows, Spots}
+use Rattle.rule_inline.proofs.TypeLemmas.{not_some, some_one, simples_one, of_type, defined_is, index_is, EachValue, index_leads}
 use Rattle.rule_inline.proofs.ArithLemmas.{number_value, tells_calculated, Storable}
-use Rattle.rule_inline.proofs.SceneLemmas.{Sound, sound_binding, GiftIs, GiftsAre, bound_there, rep_under, at_frame, inner, Sited, site_under, site_value, root_spots}
-use Rattle.rule_inline.proofs.QuantifierLemmas.{given_twice, tells_before, tells_after, tells_nodes, quantified, tells_values}
+use Rattle.rule_inline.proofs.SceneLemmas.{Sound, at_frame, Sited}
+use Rattle.rule_inline.proofs.QuantifierLemmas.{tells_before, tells_after}
 
 -- Types of parts
 
@@ -245,7 +234,6 @@ given_no_simple (Some g) found f into e is simple =
     let (by_value, rest) = and_parts (not g.by_place) (is_compound g.of && place_fits g.of found) e in
     let (compound, other) = and_parts (is_compound g.of) (place_fits g.of found) rest in
     absurd_false (sym (ap (λ (h : DeclaredFormal). is_compound h.of) same ∙ no_compound f.of into simple) ∙ compound)
-
 
 pub each_map : {P Q : Value → Type 0} (xs : List Value) → ((y : Value) → P y → Q y) → EachValue P xs → EachValue Q xs
 each_map [] f e = tt

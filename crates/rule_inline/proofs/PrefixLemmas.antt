@@ -1,12 +1,11 @@
 -- A demand has no more binders than nodes are bound in the part that makes it, calls opened.
-use Rattle.std.proofs.Common.{◌≡◌, ℕ, zero, suc, ◌+◌, ◌≤◌, max, Bool, true, false, not, cond, List, [], ◌∷◌, ◌++◌, length, map, reverse, Option, None, Some, refl, sym, ap, ◌∙◌, subst, arith}
-use Rattle.std.specs.Prelude.{nat_eq, if◌then◌else◌, slice_get}
+use Rattle.std.proofs.Common.{ℕ, suc, ◌≤◌, max, Bool, true, false, List, [], ◌∷◌, ◌++◌, length, map, Option, None, Some, arith}
+use Rattle.std.specs.Prelude.{nat_eq, if◌then◌else◌}
 use Rattle.term_core.specs.declared.value.Value.{Value}
 use Rattle.term_core.specs.declared.value.ArithOp.{ArithOp}
 use Rattle.term_core.specs.declared.value.ArithOp.TheVariants as operation
 use Rattle.term_core.specs.declared.term.Term as t
 use Rattle.term_core.specs.declared.term.Term.{Term}
-use Rattle.term_core.specs.declared.machine.Piece.{Piece}
 use Rattle.murphi_ast.specs.declared.expr.ChainOp.{ChainOp}
 use Rattle.murphi_ast.specs.declared.expr.ChainOp.TheVariants as op
 use Rattle.murphi_typed.specs.declared.types.Simple.{Simple}
@@ -29,7 +28,7 @@ use Rattle.murphi_typed.specs.Prefix.{Depths, root_depth, depth_of, chain_depth,
 use Rattle.rule_inline.specs.Demands.{Demand, demand, under_test, unless_left, one_unless, binding, is_constant_false, truth_term}
 use Rattle.rule_inline.specs.Tables.{Terms, read_of, Leaving, under_variable}
 use Rattle.rule_inline.specs.Parts.{Given, Filled, Standing, Site, with_value, with_variable, Valued, Argued, Calls, Done, whole, is_defined, index_fits, fixed_values, range_fits, bounds, stored_fits, result_fits, calculated, joined, over_values, demands_of, valued_of, chain_of, placed_of, indices_of, argued_of, row_argued, one_argued}
-use Rattle.rule_inline.specs.Bodies.{nothing, result_stored, turns, Labels, labels_of, among, reached, formal_fits, formals_fit, called_site, entered, called, calls_in, taken, done_by, all_done, arms_done, cases_done}
+use Rattle.rule_inline.specs.Bodies.{result_stored, turns, labels_of, among, reached, formal_fits, formals_fit, called_site, entered, called, calls_in, taken, done_by, all_done, arms_done, cases_done}
 
 abbrev pub Within : ℕ → List Demand → Type 0
 Within n [] = Unit {0}

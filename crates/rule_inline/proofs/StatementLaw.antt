@@ -1,74 +1,48 @@
 -- Statements, one case for each form, where what calls do is given, and what is asked of loops over nodes.
-use Rattle.std.proofs.Common.{◌≡◌, ℕ, zero, suc, ◌+◌, ◌<◌, Bool, true, false, not, ◌&&◌, ◌||◌, cond, List, [], ◌∷◌, ◌++◌, length, map, reverse, Option, None, Some, ◌⊎◌, inl, inr, refl, sym, ap, ◌∙◌, subst, append_assoc, append-nil}
-use Rattle.std.specs.Prelude.{pos, slice_get, option_map, option_and_then, is_some, if◌then◌else◌, unwrap_or}
-use Rattle.std.specs.List.{list_all, list_any}
+use Rattle.std.proofs.Common.{◌≡◌, ℕ, true, false, not, ◌&&◌, List, [], ◌∷◌, ◌++◌, length, Option, None, Some, refl, sym, ap, ◌∙◌, subst}
+use Rattle.std.specs.Prelude.{slice_get, is_some}
 use Rattle.std.specs.Option.{option_map_or}
 use Rattle.std.proofs.lemmas.Bool.{and_parts}
-use Rattle.std.proofs.lemmas.Option.{slice_get_within}
 use Rattle.term_core.specs.declared.value.Value.{Value}
 use Rattle.term_core.specs.declared.value.Value.TheVariants as v
-use Rattle.term_core.specs.declared.value.ArithOp.TheVariants as operation
-use Rattle.term_core.specs.declared.term.Term as t
 use Rattle.term_core.specs.declared.term.Term.{Term}
-use Rattle.term_core.specs.Nodes.{is_node, nodes}
-use Rattle.term_core.specs.Values.{truth, number, same_value}
-use Rattle.term_core.specs.Meaning.{Cells, value_of, holds_at}
+use Rattle.term_core.specs.Nodes.{is_node}
+use Rattle.term_core.specs.Values.{truth}
+use Rattle.term_core.specs.Meaning.{Cells, value_of}
 use Rattle.term_core.specs.Laws.{PlacingBinds}
 use Rattle.murphi_ast.specs.declared.token.Span.{Span}
-use Rattle.murphi_ast.specs.declared.expr.ChainOp.{ChainOp}
-use Rattle.murphi_ast.specs.declared.expr.ChainOp.TheVariants as op
-use Rattle.murphi_ast.specs.declared.expr.CompareOp.{CompareOp}
-use Rattle.murphi_ast.specs.declared.expr.CompareOp.TheVariants as compare
 use Rattle.murphi_typed.specs.declared.types.Simple.{Simple}
 use Rattle.murphi_typed.specs.declared.types.Simple.TheVariants as simple
-use Rattle.murphi_typed.specs.declared.types.AnyType as type
-use Rattle.murphi_typed.specs.declared.types.AnyType.{AnyType}
-use Rattle.murphi_typed.specs.declared.expr.Root.{Root}
-use Rattle.murphi_typed.specs.declared.expr.Expr as x
-use Rattle.murphi_typed.specs.declared.expr.Expr.{Expr, end_of-Expr, more_of-Expr, Row_of-Link, end_of-Link, more_of-Link}
-use Rattle.murphi_typed.specs.declared.expr.Designator as d
-use Rattle.murphi_typed.specs.declared.expr.Designator.{Designator, Row_of-Selector, end_of-Selector, more_of-Selector}
-use Rattle.murphi_typed.specs.declared.expr.Selector as select
-use Rattle.murphi_typed.specs.declared.expr.Arguments as a
-use Rattle.murphi_typed.specs.declared.expr.Arguments.{Arguments, Row_of-Argument, end_of-Argument, more_of-Argument}
-use Rattle.murphi_typed.specs.declared.expr.Argument as argument
+use Rattle.murphi_typed.specs.declared.expr.Expr.{Expr}
+use Rattle.murphi_typed.specs.declared.expr.Arguments.{Arguments}
 use Rattle.murphi_typed.specs.declared.protocol.Routine.{Routine}
-use Rattle.murphi_typed.specs.declared.protocol.Formal.{Formal as DeclaredFormal}
-use Rattle.murphi_typed.specs.Forms.{NotForm, MinusForm, CompareForm, ImpliesForm, ChoiceForm, QuantifiedForm}
-use Rattle.murphi_typed.specs.Values.{is_value, may_hold, values, cleared_value}
-use Rattle.murphi_typed.specs.Families.{leaf_at}
+use Rattle.murphi_typed.specs.Values.{is_value, values}
 use Rattle.murphi_typed.specs.declared.stmt.Stmt as st
 use Rattle.murphi_typed.specs.declared.stmt.Stmt.{Stmt, Row_of-Stmt, end_of-Stmt, more_of-Stmt, Row_of-Arm, end_of-Arm, more_of-Arm, Row_of-Case, end_of-Case, more_of-Case}
 use Rattle.murphi_typed.specs.declared.protocol.Typed.{Typed}
-use Rattle.murphi_typed.specs.Store.{Place, Contents, Cells as Store, cell_at, contents_at, only, written as store_written}
-use Rattle.murphi_typed.specs.Outcome.{Outcome, Got, Fault, given, or_fault}
-use Rattle.murphi_typed.specs.Expressions.{Given, Filled, Standing, Scene, Left, Calls, as_truth, calculated, joined, compared, defined, over_all, with_bound, root_place, under, row_path, fitting, value_of as worked, chain_value as worked_chain, place_of, indices_of as worked_indices, arguments_of, row_arguments, argument_of}
+use Rattle.murphi_typed.specs.Store.{Cells as Store, only}
+use Rattle.murphi_typed.specs.Outcome.{Outcome, Got, given}
+use Rattle.murphi_typed.specs.Expressions.{Calls, with_bound, value_of as worked}
 use Rattle.murphi_typed.specs.Prefix.{is_over_nodes}
-use Rattle.murphi_typed.specs.WellTyped.{Scope, binding as scope_binding, numbers, widened, is_simple_type, root_type, simple_part, field_part, item_part, is_of, only_if, operand_type, comparable, first_of, rest_of, is_compound, same_simple, same_type, is_cell_of, holds_values_of, are_alike, labels_fit, is_function, is_procedure, returns, is_type, Exit, AtEnd, ByReturn, WithValue, stmt_fits, body_fits, arms_fit, cases_fit, may_write, root_of, given_value, given_compound, given_place, type_of, chain_type, place_type, selected_type, arguments_fit, row_fits, argument_fits}
-use Rattle.murphi_typed.specs.Keeping.{Declared, AreKept, IsTypedBody}
+use Rattle.murphi_typed.specs.WellTyped.{binding as scope_binding, is_simple_type, is_of, same_type, is_cell_of, holds_values_of, are_alike, labels_fit, is_function, is_procedure, returns, is_type, Exit, AtEnd, ByReturn, WithValue, stmt_fits, body_fits, arms_fit, cases_fit, may_write, root_of, type_of, place_type, arguments_fit}
+use Rattle.murphi_typed.specs.Keeping.{Declared, AreKept}
 use Rattle.murphi_typed.specs.Laws.{ValuesFitInBodies, BodiesKeepTypes, FunctionsGiveResults}
-use Rattle.rule_inline.specs.Demands.{Demand, demand, truth_term, under_test, binding, unless_left}
-use Rattle.rule_inline.specs.Tables.{Slot, Family, Leaving, Result, axes, Terms, Change, unchanged, renewed_by, under_variable, Index, Spot, Shown, shown_at, read_of, only_term, written, Branch, branch_chain, or_else, first_of_branches, chosen, over_nodes as after_nodes}
-use Rattle.rule_inline.specs.Bodies.{nothing, followed, reached, stored as stored_done, copied, copied_all, set, cleared, all_undefined, left_with, leave, result_stored, returned, asserted, failed, Branching, last_branch, one_branch, branched, Labels, no_labels, one_label, labels_of, one_of_labels, among, turns as term_turns, for_nodes, came_back, with_arguments, back, taken, done_by, all_done, arms_done, cases_done}
-use Rattle.rule_inline.specs.Parts.{Given as Gift, Filled as Filling, Standing as Placing, Site, with_value, with_variable, Valued, Placed, Indexed, Argued, Calls as TermCalls, Done, fixed_values, undefined, stored_fits, is_defined, index_fits, whole, result_fits, calculated as calculated_term, joined as joined_term, compared as compared_term, after, negated, compared_values, implied, choice, over_values, terms_of, mark_of, place_mark, root_spot, index_over, valued_of, chain_of, placed_of, indices_of, argued_of, row_argued, one_argued, placed_under, with_calls, over_nodes, demands_of}
+use Rattle.rule_inline.specs.Tables.{Leaving, Terms, under_variable, chosen}
+use Rattle.rule_inline.specs.Bodies.{followed, reached, cleared, all_undefined, Branching, branched, labels_of, among, turns as term_turns, for_nodes, taken, done_by, all_done, arms_done, cases_done}
+use Rattle.rule_inline.specs.Parts.{Given as Gift, Site, with_value, with_variable, Valued, Calls as TermCalls, Done, fixed_values, valued_of}
 use Rattle.rule_inline.proofs.ValueLemmas.{absurd_false}
-use Rattle.rule_inline.proofs.TermLemmas.{value-Known, value-Not, value-And, value-Or, value-If, value-Same, value-Less, value-Quantified, is_true, length-one_more, append_nothing}
-use Rattle.rule_inline.proofs.Outcome.{Either, either_map, AllHold, SomeFails, Tells, all_joined, one_holds, one_fails, tells_given, tells_then, tells_map, tells_test, tells_under, tells_unless, all_beside}
-use Rattle.rule_inline.proofs.PlaceLemmas.{NoNodes, Rep, IndexIs, Leads}
-use Rattle.rule_inline.proofs.WriteLemmas.{Shows, only_shows, Spots, place_shows}
-use Rattle.rule_inline.proofs.TypeLemmas.{not_some, some_one, only_parts, simples_one, of_type, not_undefined, defined_is, index_is, EachValue, are_values, values_fixed, index_leads}
-use Rattle.rule_inline.proofs.ArithLemmas.{number_value, tells_calculated, Storable, tells_stored, may_is}
-use Rattle.rule_inline.proofs.SceneLemmas.{Sound, sound_binding, typed_binding, GiftIs, GiftsAre, bound_there, rep_under, at_frame, inner, Sited, site_under, site_value, root_spots}
-use Rattle.rule_inline.proofs.QuantifierLemmas.{given_twice, tells_before, tells_after, tells_nodes, quantified, tells_values}
-use Rattle.rule_inline.proofs.PartLemmas.{Here, simple_found, ArgIs, ArgsAre, FunctionTells, widened_found, found_simple, bound_found, none_selected, none_chain, rooted, equal_types, comparable_types, operand_widened, row_more, value_typed, compound_typed, place_typed, given_into, given_no_simple, each_map, leads_joined, tells_got, IsTold, IsTyped, told_not, told_minus, told_compared, told_implied, told_choice, told_chain, defined_told, index_told}
-use Rattle.murphi_typed.specs.Execution.{simple_type, Ending, Next, Returned, cells_after, then_on, turns, at_of, stored, with_value as with_value_at, cleared as store_cleared, is_among, run, run_all, run_arms, run_cases, calls_of}
-use Rattle.rule_inline.proofs.ExpressionLaw.{typed, read_value, cell_storable, tells_value, tells_place, tells_arguments}
-use Rattle.rule_inline.proofs.ChangeLemmas.{InScope, Unwritten, CallsUnwritten, stmt_unwritten, row_unwritten}
-use Rattle.rule_inline.proofs.LeftLemmas.{SameTerms, same_leaving, turns_left, row_left}
-use Rattle.rule_inline.proofs.EndLemmas.{result_of, Body, here_of, typed_after, further, body_value, body_node, ResultIs, EndsWith, ends_same, checked, GoesOn, tells_next, goes_written, taken_same, BranchEnds, chosen_ends}
-use Rattle.term_core.specs.Substitution.{lifted}
-use Rattle.rule_inline.proofs.TermLemmas.{lifted_by}
-use Rattle.rule_inline.proofs.StatementLemmas.{stmt_loops, row_loops, arm_loops, case_loops, then_told, Follows, ProcedureTells, value_told, goes, assign_told, copy_told, copy_all_told, set_told, cleared_shows, typed_place, some_place, alike_types, stays, failed_told, assert_told, leave_told, return_told}
+use Rattle.rule_inline.proofs.TermLemmas.{value-Known, is_true, length-one_more}
+use Rattle.rule_inline.proofs.Outcome.{AllHold, Tells, tells_given, tells_map, tells_unless}
+use Rattle.rule_inline.proofs.PlaceLemmas.{Rep}
+use Rattle.rule_inline.proofs.TypeLemmas.{of_type, are_values, values_fixed}
+use Rattle.rule_inline.proofs.SceneLemmas.{typed_binding, at_frame, inner}
+use Rattle.rule_inline.proofs.QuantifierLemmas.{given_twice}
+use Rattle.rule_inline.proofs.PartLemmas.{Here, FunctionTells}
+use Rattle.murphi_typed.specs.Execution.{Ending, Next, then_on, turns, cleared as store_cleared, is_among, run, run_all, run_arms, run_cases, calls_of}
+use Rattle.rule_inline.proofs.ChangeLemmas.{Unwritten, CallsUnwritten, row_unwritten}
+use Rattle.rule_inline.proofs.LeftLemmas.{SameTerms, row_left}
+use Rattle.rule_inline.proofs.EndLemmas.{result_of, Body, typed_after, further, body_value, body_node, EndsWith, ends_same, checked, taken_same, BranchEnds, chosen_ends}
+use Rattle.rule_inline.proofs.StatementLemmas.{stmt_loops, row_loops, arm_loops, case_loops, then_told, Follows, ProcedureTells, value_told, assign_told, copy_told, copy_all_told, set_told, cleared_shows, typed_place, some_place, failed_told, assert_told, leave_told, return_told}
 use Rattle.rule_inline.proofs.BranchLemmas.{call_told, last_told, one_told, one_of_is, labels_told, turns_told}
 
 -- what is asked of a loop over nodes, given what its body does once
@@ -103,8 +77,8 @@ module _ (binds : PlacingBinds) (fit : ValuesFitInBodies) (keep : BodiesKeepType
 
   -- statements in turn, given the first and those that follow
   row_told : {n : _} (b : BB) (at : Span) (first : Stmt) (rest : Row_of-Stmt n) → stmt_fits b.scope first ≡ true → Follow b at (run calls b.scene b.cells first) (done_by tcalls (site_at b) b.T first)
-    → ((T : Terms) (c : Store) (kept : AreKept b.scene.nodes types c) (rep : Rep b.scene.nodes s b.scene.depth b.fr T c) (staying : is_true b.scene.nodes s b.fr (T Leaving) ≡ false) → Follow (further b T c kept rep staying) at (run_all calls b.scene c rest) (all_done tcalls (site_at b) T rest))
-    → Follow b at (given (run calls b.scene b.cells first) (λ e. then_on e (λ next. run_all calls b.scene next rest))) (followed (taken (site_at b) b.T (done_by tcalls (site_at b) b.T first)) (λ next. all_done tcalls (site_at b) next rest))
+      → ((T : Terms) (c : Store) (kept : AreKept b.scene.nodes types c) (rep : Rep b.scene.nodes s b.scene.depth b.fr T c) (staying : is_true b.scene.nodes s b.fr (T Leaving) ≡ false) → Follow (further b T c kept rep staying) at (run_all calls b.scene c rest) (all_done tcalls (site_at b) T rest))
+      → Follow b at (given (run calls b.scene b.cells first) (λ e. then_on e (λ next. run_all calls b.scene next rest))) (followed (taken (site_at b) b.T (done_by tcalls (site_at b) b.T first)) (λ next. all_done tcalls (site_at b) next rest))
   row_told b at first rest fits told more =
       then_told b.scene.nodes s b.scene.depth b.fr at b.site.result (run calls b.scene b.cells first) (λ next. run_all calls b.scene next rest) (taken (site_at b) b.T (done_by tcalls (site_at b) b.T first)) (λ next. all_done tcalls (site_at b) next rest)
       (taken_told b at (run calls b.scene b.cells first) (done_by tcalls (site_at b) b.T first) told)
@@ -169,10 +143,10 @@ module _ (binds : PlacingBinds) (fit : ValuesFitInBodies) (keep : BodiesKeepType
 
   -- a loop over a type that is not of nodes
   finite_loop : {n : _} (b : BB) (at : Span) (over : Simple) (body : Row_of-Stmt n) (block : Stmt) → is_over_nodes over ≡ false → is_simple_type b.scope.kinds over ≡ true → stmt_fits (scope_binding b.scope over) block ≡ true
-    → ((x : Value) (c : Store) → run calls (with_bound b.scene x) c block ≡ run_all calls (with_bound b.scene x) c body)
-    → ((c : BB) → Follow c at (run_all calls c.scene c.cells body) (all_done tcalls (site_at c) c.T body) → Unit {0})
-    → ((T : Terms) (c : Store) (kept : AreKept b.scene.nodes types c) (rep : Rep b.scene.nodes s b.scene.depth b.fr T c) (staying : is_true b.scene.nodes s b.fr (T Leaving) ≡ false) (x : Value) (is : is_value b.scene.nodes over x ≡ true) (fine : is_simple_type b.scope.kinds over ≡ true) → Follow (body_value results s P latest types (further b T c kept rep staying) over x is fine) at (run_all calls (with_bound b.scene x) c body) (all_done tcalls (with_value (site_at b) x) T body))
-    → Follow b at (turns (λ x c. run_all calls (with_bound b.scene x) c body) (values b.scene.nodes over) b.cells) (term_turns (λ x T. all_done tcalls (with_value (site_at b) x) T body) (fixed_values over) b.T)
+      → ((x : Value) (c : Store) → run calls (with_bound b.scene x) c block ≡ run_all calls (with_bound b.scene x) c body)
+      → ((c : BB) → Follow c at (run_all calls c.scene c.cells body) (all_done tcalls (site_at c) c.T body) → Unit {0})
+      → ((T : Terms) (c : Store) (kept : AreKept b.scene.nodes types c) (rep : Rep b.scene.nodes s b.scene.depth b.fr T c) (staying : is_true b.scene.nodes s b.fr (T Leaving) ≡ false) (x : Value) (is : is_value b.scene.nodes over x ≡ true) (fine : is_simple_type b.scope.kinds over ≡ true) → Follow (body_value results s P latest types (further b T c kept rep staying) over x is fine) at (run_all calls (with_bound b.scene x) c body) (all_done tcalls (with_value (site_at b) x) T body))
+      → Follow b at (turns (λ x c. run_all calls (with_bound b.scene x) c body) (values b.scene.nodes over) b.cells) (term_turns (λ x T. all_done tcalls (with_value (site_at b) x) T body) (fixed_values over) b.T)
   finite_loop b at over body block nn fine fits same ignored each =
       subst (λ xs. Follow b at (turns (λ x c. run_all calls (with_bound b.scene x) c body) xs b.cells) (term_turns (λ x T. all_done tcalls (with_value (site_at b) x) T body) (fixed_values over) b.T)) (sym (values_fixed b.scene.nodes over nn))
       (turns_told binds fit keep results s P latest types tcalls allowed functions procedures unwritten at over body b fine (λ T c kept rep staying x is. each T c kept rep staying x is fine)
@@ -184,7 +158,8 @@ module _ (binds : PlacingBinds) (fit : ValuesFitInBodies) (keep : BodiesKeepType
         lengths = b.typed.lengths;
         results = results P latest types b.scope b.scene b.cells b.typed;
         kept = kept;
-        known = b.typed.routines }) (typed_after P latest types b.scope b.scene b.cells c b.typed kept) is fine) fits (same x c ∙ was))
+        known = b.typed.routines;
+      }) (typed_after P latest types b.scope b.scene b.cells c b.typed kept) is fine) fits (same x c ∙ was))
       (fixed_values over) (are_values b.scene.nodes over nn) b.T b.cells b.typed.kept b.rep b.staying)
 
   mutual

@@ -1,72 +1,55 @@
 -- Statements: where one faults a demand of it is false for some nodes, else the terms after it represent the store
 -- after it. What calls do is given, and what is asked of loops over nodes.
-use Rattle.std.proofs.Common.{◌≡◌, ℕ, zero, suc, ◌+◌, ◌<◌, Bool, true, false, not, ◌&&◌, ◌||◌, cond, List, [], ◌∷◌, ◌++◌, length, map, reverse, Option, None, Some, ◌⊎◌, inl, inr, refl, sym, ap, ◌∙◌, subst, append_assoc, append-nil}
-use Rattle.std.specs.Prelude.{pos, slice_get, option_map, option_and_then, is_some, if◌then◌else◌, unwrap_or}
-use Rattle.std.specs.List.{list_all, list_any}
+use Rattle.std.proofs.Common.{◌≡◌, ℕ, Bool, true, false, List, [], ◌++◌, length, reverse, Option, None, Some, inl, refl, sym, ap, ◌∙◌, subst}
+use Rattle.std.specs.Prelude.{slice_get, option_map, is_some, if◌then◌else◌}
 use Rattle.std.specs.Option.{option_map_or}
-use Rattle.std.proofs.lemmas.Bool.{and_parts}
-use Rattle.std.proofs.lemmas.Option.{slice_get_within}
 use Rattle.term_core.specs.declared.value.Value.{Value}
 use Rattle.term_core.specs.declared.value.Value.TheVariants as v
-use Rattle.term_core.specs.declared.value.ArithOp.TheVariants as operation
 use Rattle.term_core.specs.declared.term.Term as t
 use Rattle.term_core.specs.declared.term.Term.{Term}
-use Rattle.term_core.specs.Nodes.{is_node, nodes}
-use Rattle.term_core.specs.Values.{truth, number, same_value}
-use Rattle.term_core.specs.Meaning.{Cells, value_of, holds_at}
+use Rattle.term_core.specs.Nodes.{nodes}
+use Rattle.term_core.specs.Values.{truth}
+use Rattle.term_core.specs.Meaning.{Cells, value_of}
 use Rattle.term_core.specs.Laws.{PlacingBinds}
 use Rattle.murphi_ast.specs.declared.token.Span.{Span}
-use Rattle.murphi_ast.specs.declared.expr.ChainOp.{ChainOp}
-use Rattle.murphi_ast.specs.declared.expr.ChainOp.TheVariants as op
-use Rattle.murphi_ast.specs.declared.expr.CompareOp.{CompareOp}
-use Rattle.murphi_ast.specs.declared.expr.CompareOp.TheVariants as compare
 use Rattle.murphi_typed.specs.declared.types.Simple.{Simple}
 use Rattle.murphi_typed.specs.declared.types.Simple.TheVariants as simple
 use Rattle.murphi_typed.specs.declared.types.AnyType as type
 use Rattle.murphi_typed.specs.declared.types.AnyType.{AnyType}
-use Rattle.murphi_typed.specs.declared.expr.Root.{Root}
-use Rattle.murphi_typed.specs.declared.expr.Expr as x
-use Rattle.murphi_typed.specs.declared.expr.Expr.{Expr, end_of-Expr, more_of-Expr, Row_of-Link, end_of-Link, more_of-Link}
-use Rattle.murphi_typed.specs.declared.expr.Designator as d
-use Rattle.murphi_typed.specs.declared.expr.Designator.{Designator, Row_of-Selector, end_of-Selector, more_of-Selector}
-use Rattle.murphi_typed.specs.declared.expr.Selector as select
-use Rattle.murphi_typed.specs.declared.expr.Arguments as a
-use Rattle.murphi_typed.specs.declared.expr.Arguments.{Arguments, Row_of-Argument, end_of-Argument, more_of-Argument}
-use Rattle.murphi_typed.specs.declared.expr.Argument as argument
+use Rattle.murphi_typed.specs.declared.expr.Expr.{Expr}
+use Rattle.murphi_typed.specs.declared.expr.Designator.{Designator}
+use Rattle.murphi_typed.specs.declared.expr.Arguments.{Arguments}
 use Rattle.murphi_typed.specs.declared.protocol.Routine.{Routine}
-use Rattle.murphi_typed.specs.declared.protocol.Formal.{Formal as DeclaredFormal}
-use Rattle.murphi_typed.specs.Forms.{NotForm, MinusForm, CompareForm, ImpliesForm, ChoiceForm, QuantifiedForm}
-use Rattle.murphi_typed.specs.Values.{is_value, may_hold, values, cleared_value}
+use Rattle.murphi_typed.specs.Values.{is_value, may_hold, cleared_value}
 use Rattle.murphi_typed.specs.Families.{leaf_at}
 use Rattle.murphi_typed.specs.declared.stmt.Stmt as st
 use Rattle.murphi_typed.specs.declared.stmt.Stmt.{Stmt, Row_of-Stmt, end_of-Stmt, more_of-Stmt, Row_of-Arm, end_of-Arm, more_of-Arm, Row_of-Case, end_of-Case, more_of-Case}
 use Rattle.murphi_typed.specs.declared.protocol.Typed.{Typed}
 use Rattle.murphi_typed.specs.Store.{Place, Contents, Cells as Store, cell_at, contents_at, only, written as store_written}
-use Rattle.murphi_typed.specs.Outcome.{Outcome, Got, Fault, given, or_fault}
-use Rattle.murphi_typed.specs.Expressions.{Given, Filled, Standing, Scene, Left, Calls, as_truth, calculated, joined, compared, defined, over_all, with_bound, root_place, under, row_path, fitting, value_of as worked, chain_value as worked_chain, place_of, indices_of as worked_indices, arguments_of, row_arguments, argument_of}
-use Rattle.murphi_typed.specs.Prefix.{is_over_nodes}
-use Rattle.murphi_typed.specs.WellTyped.{Scope, binding as scope_binding, numbers, widened, is_simple_type, root_type, simple_part, field_part, item_part, is_of, only_if, operand_type, comparable, first_of, rest_of, is_compound, same_simple, same_type, is_cell_of, holds_values_of, are_alike, labels_fit, is_function, is_procedure, returns, is_type, AtEnd, ByReturn, WithValue, stmt_fits, body_fits, arms_fit, cases_fit, may_write, root_of, given_value, given_compound, given_place, type_of, chain_type, place_type, selected_type, arguments_fit, row_fits, argument_fits}
-use Rattle.murphi_typed.specs.Keeping.{Declared, AreKept, IsTypedBody}
+use Rattle.murphi_typed.specs.Outcome.{Outcome, Got, Fault, given}
+use Rattle.murphi_typed.specs.Expressions.{Given, Calls, fitting, value_of as worked, place_of, arguments_of}
+use Rattle.murphi_typed.specs.WellTyped.{widened, simple_part, is_of, same_simple, same_type, is_cell_of, holds_values_of, are_alike, type_of, place_type, arguments_fit}
+use Rattle.murphi_typed.specs.Keeping.{Declared}
 use Rattle.murphi_typed.specs.Laws.{ValuesFitInBodies, BodiesKeepTypes, FunctionsGiveResults}
-use Rattle.rule_inline.specs.Demands.{Demand, demand, truth_term, under_test, binding, unless_left}
-use Rattle.rule_inline.specs.Tables.{Slot, Family, Leaving, Result, axes, Terms, Change, unchanged, renewed_by, under_variable, Index, Spot, Shown, shown_at, read_of, only_term, written, Branch, branch_chain, first_of_branches, chosen, over_nodes as after_nodes}
-use Rattle.rule_inline.specs.Bodies.{nothing, followed, reached, stored as stored_done, copied, copied_all, set, cleared, all_undefined, left_with, leave, result_stored, returned, asserted, failed, Branching, last_branch, one_branch, branched, Labels, no_labels, one_label, labels_of, one_of_labels, among, turns as term_turns, for_nodes, came_back, with_arguments, back, taken, done_by, all_done, arms_done, cases_done}
-use Rattle.rule_inline.specs.Parts.{Given as Gift, Filled as Filling, Standing as Placing, Site, with_value, with_variable, Valued, Placed, Indexed, Argued, Calls as TermCalls, Done, fixed_values, undefined, stored_fits, is_defined, index_fits, whole, result_fits, calculated as calculated_term, joined as joined_term, compared as compared_term, after, negated, compared_values, implied, choice, over_values, terms_of, mark_of, place_mark, root_spot, index_over, valued_of, chain_of, placed_of, indices_of, argued_of, row_argued, one_argued, placed_under, with_calls, over_nodes, demands_of}
+use Rattle.rule_inline.specs.Demands.{Demand, truth_term}
+use Rattle.rule_inline.specs.Tables.{Leaving, Result, Terms, Change, unchanged, renewed_by, Spot, Shown, shown_at, read_of, only_term, written}
+use Rattle.rule_inline.specs.Bodies.{followed, reached, stored as stored_done, copied, copied_all, set, cleared, left_with, leave, result_stored, returned, asserted, failed}
+use Rattle.rule_inline.specs.Parts.{Given as Gift, Site, with_value, with_variable, Valued, Calls as TermCalls, Done, undefined, stored_fits, valued_of, placed_of, argued_of}
 use Rattle.rule_inline.proofs.ValueLemmas.{absurd_false}
-use Rattle.rule_inline.proofs.TermLemmas.{value-Known, value-Not, value-And, value-Or, value-If, value-Same, value-Less, value-Quantified, is_true, length-one_more, append_nothing}
-use Rattle.rule_inline.proofs.Outcome.{Either, either_map, AllHold, SomeFails, Tells, all_joined, one_holds, one_fails, tells_given, tells_then, tells_map, tells_test, tells_under, tells_unless, all_beside}
-use Rattle.rule_inline.proofs.PlaceLemmas.{NoNodes, Rep, IndexIs, Leads}
+use Rattle.rule_inline.proofs.TermLemmas.{value-Known, is_true}
+use Rattle.rule_inline.proofs.Outcome.{Either, AllHold, Tells, one_fails, tells_given, tells_then, tells_test, tells_unless}
+use Rattle.rule_inline.proofs.PlaceLemmas.{Rep}
 use Rattle.rule_inline.proofs.WriteLemmas.{Shows, only_shows, Spots, place_shows}
-use Rattle.rule_inline.proofs.TypeLemmas.{not_some, some_one, only_parts, simples_one, of_type, not_undefined, defined_is, index_is, EachValue, are_values, values_fixed, index_leads}
-use Rattle.rule_inline.proofs.ArithLemmas.{number_value, tells_calculated, Storable, tells_stored, may_is}
-use Rattle.rule_inline.proofs.SceneLemmas.{Sound, sound_binding, GiftIs, GiftsAre, bound_there, rep_under, at_frame, inner, Sited, site_under, site_value, root_spots}
-use Rattle.rule_inline.proofs.QuantifierLemmas.{given_twice, tells_before, tells_after, tells_nodes, quantified, tells_values}
-use Rattle.rule_inline.proofs.PartLemmas.{Here, simple_found, ArgIs, ArgsAre, FunctionTells, widened_found, found_simple, bound_found, none_selected, none_chain, rooted, equal_types, comparable_types, operand_widened, row_more, value_typed, compound_typed, place_typed, given_into, given_no_simple, each_map, leads_joined, tells_got, IsTold, IsTyped, told_not, told_minus, told_compared, told_implied, told_choice, told_chain, defined_told, index_told}
-use Rattle.murphi_typed.specs.Execution.{simple_type, Ending, Next, Returned, cells_after, then_on, turns, at_of, stored, with_value as with_value_at, cleared as store_cleared, is_among, run, run_all, run_arms, run_cases, calls_of}
-use Rattle.rule_inline.proofs.ExpressionLaw.{typed, read_value, cell_storable, tells_value, tells_place, tells_arguments}
-use Rattle.rule_inline.proofs.ChangeLemmas.{InScope, Unwritten, CallsUnwritten, stmt_unwritten, row_unwritten}
-use Rattle.rule_inline.proofs.LeftLemmas.{SameTerms, same_leaving, turns_left, row_left}
-use Rattle.rule_inline.proofs.EndLemmas.{result_of, Body, here_of, typed_after, further, body_value, body_node, ResultIs, EndsWith, ends_same, checked, GoesOn, tells_next, goes_written, taken_same, BranchEnds, chosen_ends}
+use Rattle.rule_inline.proofs.TypeLemmas.{some_one, of_type, not_undefined}
+use Rattle.rule_inline.proofs.ArithLemmas.{Storable, tells_stored, may_is}
+use Rattle.rule_inline.proofs.SceneLemmas.{at_frame}
+use Rattle.rule_inline.proofs.QuantifierLemmas.{given_twice}
+use Rattle.rule_inline.proofs.PartLemmas.{Here, simple_found, ArgsAre, FunctionTells, widened_found, IsTold}
+use Rattle.murphi_typed.specs.Execution.{Ending, Next, Returned, then_on, at_of, stored, with_value as with_value_at, cleared as store_cleared, calls_of}
+use Rattle.rule_inline.proofs.ExpressionLaw.{typed, read_value, cell_storable, tells_value, tells_place}
+use Rattle.rule_inline.proofs.ChangeLemmas.{CallsUnwritten}
+use Rattle.rule_inline.proofs.LeftLemmas.{SameTerms}
+use Rattle.rule_inline.proofs.EndLemmas.{Body, here_of, ResultIs, EndsWith, ends_same, checked, GoesOn, tells_next, goes_written}
 
 -- every loop over nodes of a body has a property, and so has every procedure that it calls with what it gives
 unfoldable mutual
@@ -116,10 +99,10 @@ checked_next N s at (Some u) (Got (Returned d (Some w))) c e = go (is_value N u 
 
 -- one part of a body and what follows it
 pub then_told : (N : ℕ) (s : Cells) (depth : ℕ) (fr : List ℕ) (at : Span) (res : Option Simple) (o : Outcome Ending) (R : Store → Outcome Ending) (a : Done) (next : Terms → Done)
-  → Tells N s fr (given o (checked N s at res)) a.demands (EndsWith N s depth fr res a.change)
-  → ((c : Store) → o ≡ Got (Next c) → Rep N s depth fr a.change.now c → is_true N s fr (a.change.now Leaving) ≡ false → Tells N s fr (given (R c) (checked N s at res)) ((next a.change.now).demands) (EndsWith N s depth fr res (next a.change.now).change))
-  → (is_true N s fr (a.change.now Leaving) ≡ true → AllHold N s fr ((next a.change.now).demands) × SameTerms N s depth fr a.change.now ((next a.change.now).change.now))
-  → Tells N s fr (given (given o (λ e. then_on e R)) (checked N s at res)) ((followed a next).demands) (EndsWith N s depth fr res (followed a next).change)
+    → Tells N s fr (given o (checked N s at res)) a.demands (EndsWith N s depth fr res a.change)
+    → ((c : Store) → o ≡ Got (Next c) → Rep N s depth fr a.change.now c → is_true N s fr (a.change.now Leaving) ≡ false → Tells N s fr (given (R c) (checked N s at res)) ((next a.change.now).demands) (EndsWith N s depth fr res (next a.change.now).change))
+    → (is_true N s fr (a.change.now Leaving) ≡ true → AllHold N s fr ((next a.change.now).demands) × SameTerms N s depth fr a.change.now ((next a.change.now).change.now))
+    → Tells N s fr (given (given o (λ e. then_on e R)) (checked N s at res)) ((followed a next).demands) (EndsWith N s depth fr res (followed a next).change)
 then_told N s depth fr at res o R a next first more left =
     subst (λ x. Tells N s fr x (a.demands ++ (next a.change.now).demands) (EndsWith N s depth fr res (followed a next).change)) (sym (row_checked N s at res o R))
     (tells_given N s fr a.demands ((next a.change.now).demands) (given o (checked N s at res)) _ _ _ first after)
