@@ -1,8 +1,6 @@
 -- Operations on numbers and ranges: their demands say where they fault.
-use Rattle.std.proofs.Common.{◌≡◌, ℕ, Bool, true, false, not, ◌&&◌, ◌||◌, cond, List, [], ◌∷◌, ◌++◌, map, Option, None, Some, ◌⊎◌, inl, inr, refl, sym, ap, ◌∙◌, subst, arith}
-use Rattle.std.specs.Prelude.{ℤ, pos, negsuc, ◌+ℤ◌, ◌-ℤ◌, ◌*ℤ◌, int_lt, int_le, int_div, int_rem, if◌then◌else◌}
-use Rattle.std.specs.List.{list_all}
-use Rattle.std.proofs.lemmas.Bool.{and_parts}
+use Rattle.std.proofs.Common.{◌≡◌, ℕ, Bool, true, false, not, ◌&&◌, ◌||◌, cond, List, [], ◌∷◌, map, None, Some, ◌⊎◌, inl, inr, refl, sym, ap, ◌∙◌, subst, arith}
+use Rattle.std.specs.Prelude.{ℤ, pos, negsuc, ◌+ℤ◌, ◌-ℤ◌, ◌*ℤ◌, int_lt, int_div, int_rem, if◌then◌else◌}
 use Rattle.term_core.specs.declared.value.Value.{Value}
 use Rattle.term_core.specs.declared.value.Value.TheVariants as v
 use Rattle.term_core.specs.declared.value.ArithOp.{ArithOp}
@@ -15,16 +13,16 @@ use Rattle.murphi_ast.specs.declared.token.Span.{Span}
 use Rattle.murphi_typed.specs.declared.types.Simple.{Simple}
 use Rattle.murphi_typed.specs.declared.types.Simple.TheVariants as simple
 use Rattle.murphi_typed.specs.Values.{is_value, may_hold}
-use Rattle.murphi_typed.specs.Outcome.{Outcome, Got, Fault, given, or_fault}
+use Rattle.murphi_typed.specs.Outcome.{Got, Fault, given, or_fault}
 use Rattle.murphi_typed.specs.Expressions.{result_of, in_range, calculated, fitting}
 use Rattle.murphi_typed.specs.Execution.{stored}
 use Rattle.murphi_typed.specs.WellTyped.{numbers, widened}
-use Rattle.rule_inline.specs.Demands.{Demand, demand, truth_term}
-use Rattle.rule_inline.specs.Parts.{undefined, at_most, bounds, range_fits, stored_fits, whole, lowest, highest, minus_one, product_fits, result_fits}
+use Rattle.rule_inline.specs.Demands.{Demand, demand}
+use Rattle.rule_inline.specs.Parts.{undefined, at_most, bounds, stored_fits, whole, lowest, highest, minus_one, product_fits, result_fits}
 use Rattle.rule_inline.proofs.ValueLemmas.{absurd_false}
 use Rattle.rule_inline.proofs.TermLemmas.{value-Known, value-Not, value-And, value-Or, value-If, value-Same, value-Less, value-Arith, is_true, and_of, or_of}
 use Rattle.rule_inline.proofs.Outcome.{Either, either_map, AllHold, SomeFails, Tells, one_holds, one_fails, tells_test, all_joined, fails_first, fails_second}
-use Rattle.rule_inline.proofs.NumberLemmas.{sum_fits, difference_fits, product_test, product_fits as product_is, quotient_fits, remainder_fits}
+use Rattle.rule_inline.proofs.NumberLemmas.{sum_fits, difference_fits, product_fits as product_is, quotient_fits, remainder_fits}
 use Rattle.rule_inline.proofs.TypeLemmas.{is_a_number, not_undefined, at_most_is, bounds_are}
 
 cond_of : {A : Type 0} {a a' : Bool} {b b' c c' : A} → a ≡ a' → b ≡ b' → c ≡ c' → cond a b c ≡ cond a' b' c'
@@ -160,7 +158,7 @@ module _ (N : ℕ) (s : Cells) (fr : List ℕ) where
   abbrev pub Storable : Bool → Simple → Value → Type 0
   Storable plain into x = (is_value N (widened into) x ≡ true) ⊎ ((plain ≡ true) × (x ≡ v.Undefined))
 
-  may_is : (into : Simple) (x : Value) → same_value x v.Undefined ≡ false → may_hold N into x ≡ is_value N into x
+  pub may_is : (into : Simple) (x : Value) → same_value x v.Undefined ≡ false → may_hold N into x ≡ is_value N into x
   may_is into v.Undefined e = absurd_false (sym e)
   may_is into (v.Truth b) e = refl
   may_is into (v.Number z) e = refl

@@ -1,24 +1,20 @@
 -- What a part of a body does not write keeps its term.
-use Rattle.std.proofs.Common.{◌≡◌, ℕ, zero, suc, ◌<◌, ◌≤◌, Bool, true, false, List, [], ◌∷◌, ◌++◌, length, Option, None, Some, refl, sym, ap, ◌∙◌, subst, arith}
-use Rattle.std.specs.Prelude.{nat_eq, nat_le, if◌then◌else◌, option_map, option_and_then, unwrap_or, is_some}
+use Rattle.std.proofs.Common.{◌≡◌, ℕ, suc, Bool, true, false, List, [], ◌∷◌, length, Option, None, Some, refl, sym, ap, ◌∙◌, arith}
+use Rattle.std.specs.Prelude.{nat_eq, if◌then◌else◌, option_map, option_and_then, unwrap_or, is_some}
 use Rattle.std.specs.Option.{option_map_or}
 use Rattle.term_core.specs.declared.value.Value.{Value}
 use Rattle.term_core.specs.declared.term.Term as t
 use Rattle.term_core.specs.declared.term.Term.{Term}
 use Rattle.term_core.specs.Substitution.{lifted}
-use Rattle.murphi_typed.specs.declared.types.Simple.{Simple}
 use Rattle.murphi_typed.specs.declared.types.Simple.TheVariants as simple
 use Rattle.murphi_typed.specs.declared.stmt.Stmt as s
 use Rattle.murphi_typed.specs.declared.stmt.Stmt.{Stmt, Row_of-Stmt, end_of-Stmt, more_of-Stmt}
 use Rattle.murphi_typed.specs.declared.protocol.Routine.{Routine}
 use Rattle.murphi_typed.specs.Store.{Owner, Global, Local, Formal}
-use Rattle.murphi_typed.specs.Prefix.{is_over_nodes}
 use Rattle.rule_inline.specs.Demands.{is_constant_false}
-use Rattle.rule_inline.specs.Tables.{Slot, Family, Leaving, Result, Terms, Marks, Change, unchanged, or_else, and_then, renewed_by, under_variable, writes, axes, Branch, branch_chain, closed, first_of_branches, chosen, kept_if_left, unless_returned, axis_in, own_axis, over_nodes}
+use Rattle.rule_inline.specs.Tables.{Slot, Family, Leaving, Result, Terms, Marks, Change, unchanged, or_else, and_then, renewed_by, under_variable, axes, Branch, branch_chain, closed, first_of_branches, chosen, kept_if_left, unless_returned, axis_in, own_axis, over_nodes}
 use Rattle.rule_inline.specs.Parts.{Given, Argued, Site, with_value, with_variable, Done, Calls, fixed_values, valued_of, argued_of}
-use Rattle.rule_inline.specs.Bodies.{before, followed, taken, turns, entered, called_site, came_back, done_by, all_done, arms_done, cases_done, called, calls_in}
-use Rattle.rule_inline.proofs.ValueLemmas.{absurd_false}
-use Rattle.rule_inline.proofs.TypeLemmas.{not_some}
+use Rattle.rule_inline.specs.Bodies.{followed, taken, turns, entered, called_site, came_back, done_by, all_done, arms_done, cases_done, called, calls_in}
 use Rattle.rule_inline.proofs.PlaceLemmas.{reaches}
 
 -- the variables of a body at this depth, and whether and with what result it was left

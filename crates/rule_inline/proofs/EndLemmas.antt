@@ -1,6 +1,6 @@
 -- How a part of a body ends: the terms after it represent the store after it, and say whether a `return` was met.
-use Rattle.std.proofs.Common.{◌≡◌, ℕ, zero, suc, Bool, true, false, not, ◌&&◌, ◌||◌, cond, List, [], ◌∷◌, ◌++◌, length, map, reverse, Option, None, Some, refl, sym, ap, ◌∙◌, subst}
-use Rattle.std.specs.Prelude.{if◌then◌else◌, is_some, unwrap_or}
+use Rattle.std.proofs.Common.{◌≡◌, ℕ, Bool, true, false, cond, List, [], ◌∷◌, ◌++◌, length, Option, None, Some, refl, sym, ap, ◌∙◌, subst}
+use Rattle.std.specs.Prelude.{if◌then◌else◌, is_some}
 use Rattle.term_core.specs.declared.value.Value.{Value}
 use Rattle.term_core.specs.declared.value.Value.TheVariants as v
 use Rattle.term_core.specs.declared.term.Term as t
@@ -9,7 +9,6 @@ use Rattle.term_core.specs.Nodes.{is_node}
 use Rattle.term_core.specs.Values.{truth}
 use Rattle.term_core.specs.Meaning.{Cells, value_of}
 use Rattle.term_core.specs.Substitution.{lifted}
-use Rattle.term_core.specs.Laws.{PlacingBinds}
 use Rattle.murphi_ast.specs.declared.token.Span.{Span}
 use Rattle.murphi_typed.specs.declared.types.Simple.{Simple}
 use Rattle.murphi_typed.specs.declared.types.Simple.TheVariants as simple
@@ -18,20 +17,20 @@ use Rattle.murphi_typed.specs.declared.protocol.Typed.{Typed}
 use Rattle.murphi_typed.specs.Values.{is_value}
 use Rattle.murphi_typed.specs.Store.{Place, Contents, Cells as Store, written as store_written}
 use Rattle.murphi_typed.specs.Outcome.{Outcome, Got, Fault, given}
-use Rattle.murphi_typed.specs.Expressions.{Scene, Calls, with_bound}
-use Rattle.murphi_typed.specs.Execution.{Ending, Next, Returned, cells_after, then_on, calls_of}
-use Rattle.murphi_typed.specs.WellTyped.{Scope, Exit, AtEnd, ByReturn, WithValue, binding, is_simple_type}
+use Rattle.murphi_typed.specs.Expressions.{Scene, with_bound}
+use Rattle.murphi_typed.specs.Execution.{Ending, Next, Returned, calls_of}
+use Rattle.murphi_typed.specs.WellTyped.{Scope, Exit, WithValue, binding, is_simple_type}
 use Rattle.murphi_typed.specs.Keeping.{Declared, AreKept, IsTypedBody}
 use Rattle.murphi_typed.specs.Laws.{FunctionsGiveResults}
 use Rattle.rule_inline.specs.Demands.{Demand, is_constant_false}
-use Rattle.rule_inline.specs.Tables.{Slot, Family, Leaving, Result, axes, Terms, Change, unchanged, and_then, under_variable, Spot, Shown, written, writes, Branch, branch_chain, first_of_branches, chosen, kept_if_left, unless_returned}
+use Rattle.rule_inline.specs.Tables.{Slot, Family, Leaving, Result, axes, Terms, Change, under_variable, Spot, Shown, written, writes, branch_chain, first_of_branches, chosen, kept_if_left}
 use Rattle.rule_inline.specs.Parts.{Site, with_value, Done}
 use Rattle.rule_inline.specs.Bodies.{Branching, taken}
 use Rattle.rule_inline.proofs.TermLemmas.{value-If, is_true, lifted_by, lifted_end, append_nothing}
 use Rattle.rule_inline.proofs.Outcome.{Tells}
-use Rattle.rule_inline.proofs.PlaceLemmas.{reaches, Rep}
+use Rattle.rule_inline.proofs.PlaceLemmas.{Rep}
 use Rattle.rule_inline.proofs.WriteLemmas.{Shows, Spots, written_rep}
-use Rattle.rule_inline.proofs.SceneLemmas.{Sound, sound_binding, rep_under, at_frame, inner, Sited, site_under, site_value}
+use Rattle.rule_inline.proofs.SceneLemmas.{typed_binding, rep_under, at_frame, inner, Sited, site_under, site_value}
 use Rattle.rule_inline.proofs.PartLemmas.{Here}
 use Rattle.rule_inline.proofs.ChangeLemmas.{InScope, Unwritten}
 use Rattle.rule_inline.proofs.LeftLemmas.{some_or_none, SameTerms, same_leaving}
@@ -55,7 +54,7 @@ pub record Body (s : Cells) (P : Typed) (latest : List Routine) (types : Declare
   pub staying : is_true scene.nodes s fr (T Leaving) ≡ false
   pub exits : site.result ≡ result_of scope.exit
 
-abbrev pub here_of : (results : FunctionsGiveResults) (s : Cells) (P : Typed) (latest : List Routine) (types : Declared) → Body s P latest types → Span → Here s types (calls_of latest) (reverse latest)
+abbrev pub here_of : (results : FunctionsGiveResults) (s : Cells) (P : Typed) (latest : List Routine) (types : Declared) → Body s P latest types → Span → Here s P latest types
 here_of results s P latest types b at = record {
   scope = b.scope;
   scene = b.scene;
@@ -64,6 +63,7 @@ here_of results s P latest types b at = record {
   T = b.T;
   cells = b.cells;
   at = at;
+  typed = b.typed;
   sound = record {
     fits = b.typed.fits;
     fine = b.typed.fine;
@@ -71,25 +71,11 @@ here_of results s P latest types b at = record {
     lengths = b.typed.lengths;
     results = results P latest types b.scope b.scene b.cells b.typed;
     kept = b.typed.kept;
-    known = b.typed.routines };
+    known = b.typed.routines;
+  };
   sited = b.sited;
-  rep = b.rep }
-
-pub typed_binding : (P : Typed) (latest : List Routine) (types : Declared) (calls : Calls) (scope : Scope) (scene : Scene) (cells : Store) (over : Simple) (x : Value) → Sound types calls (reverse latest) scope scene cells → IsTypedBody P latest types scope scene cells → is_value scene.nodes over x ≡ true → is_simple_type scope.kinds over ≡ true → IsTypedBody P latest types (binding scope over) (with_bound scene x) cells
-typed_binding P latest types calls scope scene cells over x sound typed is fine =
-    let more = sound_binding types calls (reverse latest) scope scene cells over x sound is fine in
-    record {
-      kinds = typed.kinds;
-      globals = typed.globals;
-      routines = typed.routines;
-      known = typed.known;
-      fits = more.fits;
-      fine = more.fine;
-      bound = more.bound;
-      lengths = more.lengths;
-      shallow = typed.shallow;
-      declared = typed.declared;
-      kept = typed.kept }
+  rep = b.rep;
+}
 
 pub typed_after : (P : Typed) (latest : List Routine) (types : Declared) (scope : Scope) (scene : Scene) (cells next : Store) → IsTypedBody P latest types scope scene cells → AreKept scene.nodes types next → IsTypedBody P latest types scope scene next
 typed_after P latest types scope scene cells next typed kept = record {
@@ -103,7 +89,8 @@ typed_after P latest types scope scene cells next typed kept = record {
   lengths = typed.lengths;
   shallow = typed.shallow;
   declared = typed.declared;
-  kept = kept }
+  kept = kept;
+}
 
 -- the same body further on
 abbrev pub further : {s : Cells} {P : Typed} {latest : List Routine} {types : Declared} → (b : Body s P latest types) (T : Terms) (cells : Store) → AreKept b.scene.nodes types cells → Rep b.scene.nodes s b.scene.depth b.fr T cells → is_true b.scene.nodes s b.fr (T Leaving) ≡ false → Body s P latest types
@@ -117,7 +104,8 @@ module _ (results : FunctionsGiveResults) (s : Cells) (P : Typed) (latest : List
     scene = with_bound b.scene x;
     site = with_value b.site x;
     typed = typed_binding P latest types (calls_of latest) b.scope b.scene b.cells over x (here_of results s P latest types b (record { line = 0; column = 0 })).sound b.typed is fine;
-    sited = site_value s b.fr b.site b.scene x b.sited }
+    sited = site_value s b.fr b.site b.scene x b.sited;
+  }
 
   abbrev pub body_node : (b : Body s P latest types) (n : ℕ) → is_node b.scene.nodes n ≡ true → Body s P latest types
   body_node b n is = record b {
@@ -129,7 +117,8 @@ module _ (results : FunctionsGiveResults) (s : Cells) (P : Typed) (latest : List
     typed = typed_binding P latest types (calls_of latest) b.scope b.scene b.cells simple.Node (v.Node n) (here_of results s P latest types b (record { line = 0; column = 0 })).sound b.typed is refl;
     sited = site_under s b.fr b.site b.scene n b.sited;
     rep = rep_under b.scene.nodes s b.scene.depth b.fr b.T b.cells n b.rep;
-    staying = ap truth (lifted_end b.scene.nodes s b.fr (n ∷ []) (b.T Leaving)) ∙ b.staying }
+    staying = ap truth (lifted_end b.scene.nodes s b.fr (n ∷ []) (b.T Leaving)) ∙ b.staying;
+  }
 
 module _ (N : ℕ) (s : Cells) where
   -- the result that a `return` gives

@@ -1,24 +1,18 @@
 -- Expressions, designators and arguments: where one faults a demand of it is false for some nodes, else its term has
 -- its value. What functions do is given.
-use Rattle.std.proofs.Common.{◌≡◌, ℕ, zero, suc, ◌+◌, ◌<◌, Bool, true, false, not, ◌&&◌, ◌||◌, cond, List, [], ◌∷◌, ◌++◌, length, map, Option, None, Some, ◌⊎◌, inl, inr, refl, sym, ap, ◌∙◌, subst, append_assoc, append-nil}
-use Rattle.std.specs.Prelude.{pos, slice_get, option_map, option_and_then, is_some, if◌then◌else◌, unwrap_or}
-use Rattle.std.specs.List.{list_all, list_any}
-use Rattle.std.specs.Option.{option_map_or}
+use Rattle.std.proofs.Common.{◌≡◌, ℕ, ◌<◌, Bool, true, false, ◌&&◌, List, [], ◌∷◌, ◌++◌, length, map, reverse, Option, None, Some, inl, inr, refl, sym, ap, ◌∙◌, subst}
+use Rattle.std.specs.Prelude.{slice_get, option_map, option_and_then, is_some, unwrap_or}
 use Rattle.std.proofs.lemmas.Bool.{and_parts}
 use Rattle.std.proofs.lemmas.Option.{slice_get_within}
 use Rattle.term_core.specs.declared.value.Value.{Value}
 use Rattle.term_core.specs.declared.value.Value.TheVariants as v
-use Rattle.term_core.specs.declared.value.ArithOp.TheVariants as operation
 use Rattle.term_core.specs.declared.term.Term as t
 use Rattle.term_core.specs.declared.term.Term.{Term}
-use Rattle.term_core.specs.Nodes.{is_node, nodes}
-use Rattle.term_core.specs.Values.{truth, number, same_value}
-use Rattle.term_core.specs.Meaning.{Cells, value_of, holds_at}
+use Rattle.term_core.specs.Nodes.{is_node}
+use Rattle.term_core.specs.Values.{truth, same_value}
+use Rattle.term_core.specs.Meaning.{Cells, value_of}
 use Rattle.term_core.specs.Laws.{PlacingBinds}
 use Rattle.murphi_ast.specs.declared.token.Span.{Span}
-use Rattle.murphi_ast.specs.declared.expr.ChainOp.{ChainOp}
-use Rattle.murphi_ast.specs.declared.expr.ChainOp.TheVariants as op
-use Rattle.murphi_ast.specs.declared.expr.CompareOp.{CompareOp}
 use Rattle.murphi_ast.specs.declared.expr.CompareOp.TheVariants as compare
 use Rattle.murphi_typed.specs.declared.types.Simple.{Simple}
 use Rattle.murphi_typed.specs.declared.types.Simple.TheVariants as simple
@@ -37,26 +31,28 @@ use Rattle.murphi_typed.specs.declared.protocol.Routine.{Routine}
 use Rattle.murphi_typed.specs.declared.protocol.Formal.{Formal as DeclaredFormal}
 use Rattle.murphi_typed.specs.Forms.{NotForm, MinusForm, CompareForm, ImpliesForm, ChoiceForm, QuantifiedForm}
 use Rattle.murphi_typed.specs.Values.{is_value, values}
-use Rattle.murphi_typed.specs.Store.{Place, Contents, Cells as Store, cell_at, contents_at, only}
+use Rattle.murphi_typed.specs.Store.{Place, cell_at, contents_at, only}
 use Rattle.murphi_typed.specs.Outcome.{Outcome, Got, Fault, given, or_fault}
-use Rattle.murphi_typed.specs.Expressions.{Given, Filled, Standing, Scene, Left, Calls, as_truth, calculated, joined, compared, defined, over_all, with_bound, root_place, under, row_path, fitting, value_of as worked, chain_value as worked_chain, place_of, indices_of as worked_indices, arguments_of, row_arguments, argument_of}
+use Rattle.murphi_typed.specs.Expressions.{Given, Filled, Standing, Left, Calls, joined, defined, over_all, with_bound, root_place, under, row_path, fitting, value_of as worked, chain_value as worked_chain, place_of, indices_of as worked_indices, arguments_of, row_arguments, argument_of}
 use Rattle.murphi_typed.specs.Prefix.{is_over_nodes}
-use Rattle.murphi_typed.specs.WellTyped.{Scope, binding as scope_binding, numbers, widened, is_simple_type, root_type, simple_part, field_part, item_part, is_of, only_if, operand_type, comparable, first_of, rest_of, is_compound, may_write, root_of, given_value, given_compound, given_place, type_of, chain_type, place_type, selected_type, arguments_fit, row_fits, argument_fits}
+use Rattle.murphi_typed.specs.WellTyped.{Scope, binding as scope_binding, numbers, widened, is_simple_type, root_type, simple_part, field_part, item_part, is_of, only_if, operand_type, comparable, may_write, root_of, given_place, type_of, chain_type, place_type, selected_type, arguments_fit, row_fits, argument_fits}
 use Rattle.murphi_typed.specs.Keeping.{Declared}
+use Rattle.murphi_typed.specs.declared.protocol.Typed.{Typed}
+use Rattle.murphi_typed.specs.Execution.{calls_of}
 use Rattle.murphi_typed.specs.Laws.{ValuesFitInBodies}
-use Rattle.rule_inline.specs.Demands.{Demand, demand, under_test, binding}
-use Rattle.rule_inline.specs.Tables.{Leaving, Result, Terms, under_variable, Index, Spot, Shown, shown_at, read_of, only_term}
-use Rattle.rule_inline.specs.Parts.{Given as Gift, Filled as Filling, Standing as Placing, Site, with_value, with_variable, Valued, Placed, Indexed, Argued, Calls as TermCalls, fixed_values, undefined, is_defined, index_fits, whole, result_fits, calculated as calculated_term, joined as joined_term, compared as compared_term, after, negated, compared_values, implied, choice, over_values, terms_of, mark_of, place_mark, root_spot, index_over, valued_of, chain_of, placed_of, indices_of, argued_of, row_argued, one_argued, placed_under, with_calls, over_nodes, demands_of}
+use Rattle.rule_inline.specs.Demands.{Demand, demand, binding}
+use Rattle.rule_inline.specs.Tables.{Leaving, under_variable, Spot, shown_at, read_of, only_term}
+use Rattle.rule_inline.specs.Parts.{Given as Gift, Filled as Filling, Standing as Placing, with_value, with_variable, Valued, Argued, Calls as TermCalls, fixed_values, undefined, is_defined, index_fits, joined as joined_term, after, over_values, terms_of, mark_of, place_mark, root_spot, valued_of, chain_of, placed_of, indices_of, argued_of, row_argued, one_argued, placed_under, with_calls, over_nodes, demands_of}
 use Rattle.rule_inline.proofs.ValueLemmas.{absurd_false}
-use Rattle.rule_inline.proofs.TermLemmas.{value-Known, value-Not, value-And, value-Or, value-If, value-Same, value-Less, value-Quantified, is_true, length-one_more, append_nothing}
-use Rattle.rule_inline.proofs.Outcome.{Either, either_map, AllHold, SomeFails, Tells, tells_given, tells_then, tells_map, tells_test, tells_under, all_beside}
-use Rattle.rule_inline.proofs.PlaceLemmas.{NoNodes, Rep, IndexIs, Leads}
-use Rattle.rule_inline.proofs.WriteLemmas.{Shows, only_shows, Spots, place_shows}
-use Rattle.rule_inline.proofs.TypeLemmas.{not_some, some_one, only_parts, simples_one, of_type, not_undefined, defined_is, index_is, EachValue, are_values, values_fixed, index_leads}
-use Rattle.rule_inline.proofs.ArithLemmas.{number_value, tells_calculated, Storable}
-use Rattle.rule_inline.proofs.SceneLemmas.{Sound, sound_binding, GiftIs, GiftsAre, bound_there, rep_under, at_frame, inner, Sited, site_under, site_value, root_spots}
-use Rattle.rule_inline.proofs.QuantifierLemmas.{given_twice, tells_before, tells_after, tells_nodes, quantified, tells_values}
-use Rattle.rule_inline.proofs.PartLemmas.{Here, ArgIs, ArgsAre, FunctionTells, widened_found, found_simple, bound_found, none_selected, none_chain, rooted, equal_types, comparable_types, operand_widened, row_more, value_typed, compound_typed, place_typed, given_into, given_no_simple, each_map, leads_joined, tells_got, IsTold, IsTyped, told_not, told_minus, told_compared, told_implied, told_choice, told_chain, defined_told, index_told}
+use Rattle.rule_inline.proofs.TermLemmas.{value-Known, value-And, value-Or, value-Same, value-Quantified, is_true, length-one_more, append_nothing}
+use Rattle.rule_inline.proofs.Outcome.{Tells, tells_given, tells_then, tells_map}
+use Rattle.rule_inline.proofs.PlaceLemmas.{Leads}
+use Rattle.rule_inline.proofs.WriteLemmas.{only_shows, Spots, place_shows}
+use Rattle.rule_inline.proofs.TypeLemmas.{not_some, only_parts, of_type, are_values, values_fixed}
+use Rattle.rule_inline.proofs.ArithLemmas.{Storable}
+use Rattle.rule_inline.proofs.SceneLemmas.{sound_binding, typed_binding, bound_there, rep_under, at_frame, inner, site_under, site_value, root_spots}
+use Rattle.rule_inline.proofs.QuantifierLemmas.{given_twice, tells_nodes, quantified, tells_values}
+use Rattle.rule_inline.proofs.PartLemmas.{Here, ArgIs, ArgsAre, FunctionTells, widened_found, found_simple, bound_found, none_selected, none_chain, rooted, equal_types, comparable_types, operand_widened, row_more, value_typed, compound_typed, place_typed, given_into, given_no_simple, none_fits, each_map, leads_joined, tells_got, IsTold, IsTyped, told_not, told_minus, told_compared, told_implied, told_choice, told_chain, defined_told, index_told}
 
 -- what a function leaves is its result
 tells_result : (N : ℕ) (s : Cells) (fr : List ℕ) (at : Span) (qs : List Demand) (o : Outcome Left) (term : Term) → Tells N s fr o qs (λ left. (w : Value) × (left.result ≡ Some w) × (value_of N s fr term ≡ w)) → Tells N s fr (given o (λ left. or_fault at left.result)) qs (λ y. value_of N s fr term ≡ y)
@@ -65,9 +61,15 @@ tells_result N s fr at qs (Got left) term (good, facts) =
     let (w, is, value) = facts in
     subst (λ o. Tells N s fr (or_fault at o) qs (λ y. value_of N s fr term ≡ y)) (sym is) (good, value)
 
-module _ (binds : PlacingBinds) (fit : ValuesFitInBodies) (s : Cells) (types : Declared) (calls : Calls) (routines : List Routine) (tcalls : TermCalls) (functions : (h : Here s types calls routines) → FunctionTells s types calls routines tcalls h) where
+module _ (binds : PlacingBinds) (fit : ValuesFitInBodies) (s : Cells) (P : Typed) (latest : List Routine) (types : Declared) (tcalls : TermCalls) (functions : (h : Here s P latest types) → FunctionTells s P latest types tcalls h) where
   abbrev H : Type 0
-  H = Here s types calls routines
+  H = Here s P latest types
+
+  abbrev calls : Calls
+  calls = calls_of latest
+
+  abbrev routines : List Routine
+  routines = reverse latest
 
   abbrev result : H → Expr → Outcome Value
   result h e = worked calls h.scene h.at h.cells e
@@ -78,7 +80,7 @@ module _ (binds : PlacingBinds) (fit : ValuesFitInBodies) (s : Cells) (types : D
   abbrev Told : H → Outcome Value → Valued → Type 0
   Told h o e = IsTold h.scene.nodes s h.fr o e
 
-  typed : (h : H) (e : Expr) (u : Simple) → type_of h.scope e ≡ Some u → (w : Value) → result h e ≡ Got w → is_value h.scene.nodes u w ≡ true
+  pub typed : (h : H) (e : Expr) (u : Simple) → type_of h.scope e ≡ Some u → (w : Value) → result h e ≡ Got w → is_value h.scene.nodes u w ≡ true
   typed h e u is w was = fit types calls h.scope h.scene h.at h.cells h.sound.fits h.sound.fine h.sound.bound h.sound.results h.sound.kept e u w is was
 
   abbrev pub here_value : (h : H) (over : Simple) (w : Value) → is_value h.scene.nodes over w ≡ true → is_simple_type h.scope.kinds over ≡ true → H
@@ -90,9 +92,11 @@ module _ (binds : PlacingBinds) (fit : ValuesFitInBodies) (s : Cells) (types : D
     T = h.T;
     cells = h.cells;
     at = h.at;
+    typed = typed_binding P latest types calls h.scope h.scene h.cells over w h.sound h.typed is fine;
     sound = sound_binding types calls routines h.scope h.scene h.cells over w h.sound is fine;
     sited = site_value s h.fr h.site h.scene w h.sited;
-    rep = h.rep }
+    rep = h.rep;
+  }
 
   abbrev pub here_node : (h : H) (n : ℕ) → is_node h.scene.nodes n ≡ true → H
   here_node h n is = record {
@@ -103,11 +107,13 @@ module _ (binds : PlacingBinds) (fit : ValuesFitInBodies) (s : Cells) (types : D
     T = under_variable (length h.fr) h.T;
     cells = h.cells;
     at = h.at;
+    typed = typed_binding P latest types calls h.scope h.scene h.cells simple.Node (v.Node n) h.sound h.typed is refl;
     sound = sound_binding types calls routines h.scope h.scene h.cells simple.Node (v.Node n) h.sound is refl;
     sited = site_under s h.fr h.site h.scene n h.sited;
-    rep = rep_under h.scene.nodes s h.scene.depth h.fr h.T h.cells n h.rep }
+    rep = rep_under h.scene.nodes s h.scene.depth h.fr h.T h.cells n h.rep;
+  }
 
-  read_value : (h : H) (spot : Spot) (p : Place) → Spots h.scene.nodes s h.scene.depth h.fr spot p → value_of h.scene.nodes s h.fr (read_of (length h.fr) h.T spot) ≡ cell_at h.cells p
+  pub read_value : (h : H) (spot : Spot) (p : Place) → Spots h.scene.nodes s h.scene.depth h.fr spot p → value_of h.scene.nodes s h.fr (read_of (length h.fr) h.T spot) ≡ cell_at h.cells p
   read_value h spot p spots =
       ap (λ xs. value_of h.scene.nodes s xs (read_of (length h.fr) h.T spot)) (sym (append_nothing h.fr))
       ∙ place_shows h.scene.nodes s binds h.scene.depth h.fr h.T h.cells spot p h.rep spots [] [] [] tt refl refl
@@ -197,9 +203,9 @@ module _ (binds : PlacingBinds) (fit : ValuesFitInBodies) (s : Cells) (types : D
       go (v.Node n) is = inl (fine (v.Node n) (read_is (v.Node n) is))
 
   -- arguments, one before others
-  one_told : (h : H) (formals : List DeclaredFormal) (f : Gift) (ds : List Demand) (rest : Argued) (o : Outcome Given) (p : Outcome (List Given)) → Tells h.scene.nodes s h.fr o ds (λ g. ArgIs h.scene.nodes s h.scene.depth h.fr (first_of formals) f g) → Tells h.scene.nodes s h.fr p rest.demands (λ gs. ArgsAre h.scene.nodes s h.scene.depth h.fr (rest_of formals) rest.given gs) → Tells h.scene.nodes s h.fr (given o (λ g. given p (λ gs. Got (g ∷ gs)))) (ds ++ rest.demands) (λ gs. ArgsAre h.scene.nodes s h.scene.depth h.fr formals (f ∷ rest.given) gs)
-  one_told h formals f ds rest o p first second =
-      tells_given h.scene.nodes s h.fr ds rest.demands o _ _ _ first
+  one_told : (h : H) (d : DeclaredFormal) (ds : List DeclaredFormal) (f : Gift) (qs : List Demand) (rest : Argued) (o : Outcome Given) (p : Outcome (List Given)) → Tells h.scene.nodes s h.fr o qs (λ g. ArgIs h.scene.nodes s h.scene.depth h.fr (Some d) f g) → Tells h.scene.nodes s h.fr p rest.demands (λ gs. ArgsAre h.scene.nodes s h.scene.depth h.fr ds rest.given gs) → Tells h.scene.nodes s h.fr (given o (λ g. given p (λ gs. Got (g ∷ gs)))) (qs ++ rest.demands) (λ gs. ArgsAre h.scene.nodes s h.scene.depth h.fr (d ∷ ds) (f ∷ rest.given) gs)
+  one_told h d ds f qs rest o p first second =
+      tells_given h.scene.nodes s h.fr qs rest.demands o _ _ _ first
       (λ g was is. tells_then h.scene.nodes s h.fr rest.demands p (λ gs. g ∷ gs) _ _ second (λ gs are. (is, are)))
 
   start_chain : {R : Type 0} {n : _} (scope : Scope) (o : Option Simple) (rest : Row_of-Link n) (u : Simple) → chain_type scope o rest ≡ Some u → ((w : Simple) → o ≡ Some w → chain_type scope (Some w) rest ≡ Some u → R) → R
@@ -305,33 +311,39 @@ module _ (binds : PlacingBinds) (fit : ValuesFitInBodies) (s : Cells) (types : D
     tells_arguments (a.Of' _ args) h formals fits = tells_row args h formals fits
 
     tells_row : {n : _} (args : Row_of-Argument n) (h : H) (formals : List DeclaredFormal) → row_fits h.scope formals args ≡ true → Tells h.scene.nodes s h.fr (row_arguments calls h.scene h.at h.cells args) ((row_argued tcalls (at_frame h.fr h.site) h.T args).demands) (λ gs. ArgsAre h.scene.nodes s h.scene.depth h.fr formals ((row_argued tcalls (at_frame h.fr h.site) h.T args).given) gs)
-    tells_row end_of-Argument h formals fits = (tt, tt)
-    tells_row (more_of-Argument first rest) h formals fits =
-        let (one, more) = and_parts (argument_fits h.scope (first_of formals) first) (row_fits h.scope (rest_of formals) rest) (sym (row_more h.scope formals first rest) ∙ fits) in
-        tells_argument first h formals one (row_argued tcalls (at_frame h.fr h.site) h.T rest) (row_arguments calls h.scene h.at h.cells rest) (tells_row rest h (rest_of formals) more)
+    tells_row end_of-Argument h [] fits = (tt, tt)
+    tells_row end_of-Argument h (d ∷ ds) fits = absurd_false fits
+    tells_row (more_of-Argument first rest) h [] fits =
+        let (one, more) = and_parts (argument_fits h.scope None first) (row_fits h.scope [] rest) (sym (row_more h.scope [] first rest) ∙ fits) in
+        none_fits h.scope first one
+    tells_row (more_of-Argument first rest) h (d ∷ ds) fits =
+        let (one, more) = and_parts (argument_fits h.scope (Some d) first) (row_fits h.scope ds rest) (sym (row_more h.scope (d ∷ ds) first rest) ∙ fits) in
+        tells_argument first h d ds one (row_argued tcalls (at_frame h.fr h.site) h.T rest) (row_arguments calls h.scene h.at h.cells rest) (tells_row rest h ds more)
 
-    tells_argument : (first : argument.Argument) (h : H) (formals : List DeclaredFormal) → argument_fits h.scope (first_of formals) first ≡ true → (rest : Argued) (p : Outcome (List Given)) → Tells h.scene.nodes s h.fr p rest.demands (λ gs. ArgsAre h.scene.nodes s h.scene.depth h.fr (rest_of formals) rest.given gs) → Tells h.scene.nodes s h.fr (given (argument_of calls h.scene h.at h.cells first) (λ g. given p (λ gs. Got (g ∷ gs)))) ((one_argued tcalls (at_frame h.fr h.site) h.T first rest).demands) (λ gs. ArgsAre h.scene.nodes s h.scene.depth h.fr formals ((one_argued tcalls (at_frame h.fr h.site) h.T first rest).given) gs)
-    tells_argument (argument.Copy place) h formals fits rest p told =
-        let (u, found) = value_typed (first_of formals) (option_map widened (simple_part (place_type h.scope place))) fits in
+    tells_argument : (first : argument.Argument) (h : H) (d : DeclaredFormal) (ds : List DeclaredFormal) → argument_fits h.scope (Some d) first ≡ true → (rest : Argued) (p : Outcome (List Given)) → Tells h.scene.nodes s h.fr p rest.demands (λ gs. ArgsAre h.scene.nodes s h.scene.depth h.fr ds rest.given gs) → Tells h.scene.nodes s h.fr (given (argument_of calls h.scene h.at h.cells first) (λ g. given p (λ gs. Got (g ∷ gs)))) ((one_argued tcalls (at_frame h.fr h.site) h.T first rest).demands) (λ gs. ArgsAre h.scene.nodes s h.scene.depth h.fr (d ∷ ds) ((one_argued tcalls (at_frame h.fr h.site) h.T first rest).given) gs)
+    tells_argument (argument.Copy place) h d ds fits rest p told =
+        let (u, found) = value_typed (Some d) (option_map widened (simple_part (place_type h.scope place))) fits in
         let (w, is, wide) = widened_found (place_type h.scope place) u found in
-        one_told h formals (Filling (place_mark (at_frame h.fr h.site) place) true (only_term (length h.fr) (read_of (length h.fr) h.T (placed_of tcalls (at_frame h.fr h.site) h.T place).spot))) ((placed_of tcalls (at_frame h.fr h.site) h.T place).demands) rest (argument_of calls h.scene h.at h.cells (argument.Copy place)) p
+        one_told h d ds (Filling (place_mark (at_frame h.fr h.site) place) true (only_term (length h.fr) (read_of (length h.fr) h.T (placed_of tcalls (at_frame h.fr h.site) h.T place).spot))) ((placed_of tcalls (at_frame h.fr h.site) h.T place).demands) rest (argument_of calls h.scene h.at h.cells (argument.Copy place)) p
         (tells_then h.scene.nodes s h.fr ((placed_of tcalls (at_frame h.fr h.site) h.T place).demands) (place_of calls h.scene h.at h.cells place) (λ q. Filled (only (cell_at h.cells q))) (λ q. Spots h.scene.nodes s h.scene.depth h.fr (placed_of tcalls (at_frame h.fr h.site) h.T place).spot q × (place_of calls h.scene h.at h.cells place ≡ Got q)) _
         (tells_got h.scene.nodes s h.fr ((placed_of tcalls (at_frame h.fr h.site) h.T place).demands) (place_of calls h.scene h.at h.cells place) _ _ (tells_place place h (type.Simple w) is) (λ q was spots. (spots, was)))
-        (λ q both. (only_shows h.scene.nodes s h.fr (read_of (length h.fr) h.T (placed_of tcalls (at_frame h.fr h.site) h.T place).spot) (cell_at h.cells q) (read_value h (placed_of tcalls (at_frame h.fr h.site) h.T place).spot q both.0),
-        λ f into found_f simple_f. cell_storable h place q into both.1 (given_into (first_of formals) (option_map widened (simple_part (place_type h.scope place))) f into fits found_f simple_f)))) told
-    tells_argument (argument.CopyAll place) h formals fits rest p told =
-        let (U, is) = compound_typed (first_of formals) (place_type h.scope place) fits in
-        one_told h formals (Filling None true (shown_at (length h.fr) h.T (placed_of tcalls (at_frame h.fr h.site) h.T place).spot)) ((placed_of tcalls (at_frame h.fr h.site) h.T place).demands) rest (argument_of calls h.scene h.at h.cells (argument.CopyAll place)) p
+        (λ q both. (
+          only_shows h.scene.nodes s h.fr (read_of (length h.fr) h.T (placed_of tcalls (at_frame h.fr h.site) h.T place).spot) (cell_at h.cells q) (read_value h (placed_of tcalls (at_frame h.fr h.site) h.T place).spot q both.0),
+          λ f into found_f simple_f. cell_storable h place q into both.1 (given_into (Some d) (option_map widened (simple_part (place_type h.scope place))) f into fits found_f simple_f),
+        ))) told
+    tells_argument (argument.CopyAll place) h d ds fits rest p told =
+        let (U, is) = compound_typed (Some d) (place_type h.scope place) fits in
+        one_told h d ds (Filling None true (shown_at (length h.fr) h.T (placed_of tcalls (at_frame h.fr h.site) h.T place).spot)) ((placed_of tcalls (at_frame h.fr h.site) h.T place).demands) rest (argument_of calls h.scene h.at h.cells (argument.CopyAll place)) p
         (tells_then h.scene.nodes s h.fr ((placed_of tcalls (at_frame h.fr h.site) h.T place).demands) (place_of calls h.scene h.at h.cells place) (λ q. Filled (contents_at h.cells q)) _ _ (tells_place place h U is)
-        (λ q spots. (place_shows h.scene.nodes s binds h.scene.depth h.fr h.T h.cells (placed_of tcalls (at_frame h.fr h.site) h.T place).spot q h.rep spots, λ f into found_f simple_f. given_no_simple (first_of formals) (place_type h.scope place) f into fits found_f simple_f))) told
-    tells_argument (argument.Value body) h formals fits rest p told =
-        let (u, found) = value_typed (first_of formals) (type_of h.scope body) fits in
-        one_told h formals (Filling (mark_of (at_frame h.fr h.site) body) false (only_term (length h.fr) (taken h body).term)) (taken h body).demands rest (argument_of calls h.scene h.at h.cells (argument.Value body)) p
+        (λ q spots. (place_shows h.scene.nodes s binds h.scene.depth h.fr h.T h.cells (placed_of tcalls (at_frame h.fr h.site) h.T place).spot q h.rep spots, λ f into found_f simple_f. given_no_simple (Some d) (place_type h.scope place) f into fits found_f simple_f))) told
+    tells_argument (argument.Value body) h d ds fits rest p told =
+        let (u, found) = value_typed (Some d) (type_of h.scope body) fits in
+        one_told h d ds (Filling (mark_of (at_frame h.fr h.site) body) false (only_term (length h.fr) (taken h body).term)) (taken h body).demands rest (argument_of calls h.scene h.at h.cells (argument.Value body)) p
         (tells_then h.scene.nodes s h.fr (taken h body).demands (result h body) (λ y. Filled (only y)) (λ y. (value_of h.scene.nodes s h.fr (taken h body).term ≡ y) × (result h body ≡ Got y)) _
         (tells_got h.scene.nodes s h.fr (taken h body).demands (result h body) _ _ (tells_value body h u found) (λ y was is. (is, was)))
-        (λ y both. (only_shows h.scene.nodes s h.fr (taken h body).term y both.0, λ f into found_f simple_f. inl (typed h body (widened into) (given_into (first_of formals) (type_of h.scope body) f into fits found_f simple_f) y both.1)))) told
-    tells_argument (argument.Place place) h formals fits rest p told =
-        let (writable, one) = and_parts (may_write h.scope (root_of place)) (given_place (first_of formals) (place_type h.scope place)) fits in
-        let (U, is) = place_typed (first_of formals) (place_type h.scope place) one in
-        one_told h formals (Placing (placed_of tcalls (at_frame h.fr h.site) h.T place).spot) ((placed_of tcalls (at_frame h.fr h.site) h.T place).demands) rest (argument_of calls h.scene h.at h.cells (argument.Place place)) p
+        (λ y both. (only_shows h.scene.nodes s h.fr (taken h body).term y both.0, λ f into found_f simple_f. inl (typed h body (widened into) (given_into (Some d) (type_of h.scope body) f into fits found_f simple_f) y both.1)))) told
+    tells_argument (argument.Place place) h d ds fits rest p told =
+        let (writable, one) = and_parts (may_write h.scope (root_of place)) (given_place (Some d) (place_type h.scope place)) fits in
+        let (U, is) = place_typed (Some d) (place_type h.scope place) one in
+        one_told h d ds (Placing (placed_of tcalls (at_frame h.fr h.site) h.T place).spot) ((placed_of tcalls (at_frame h.fr h.site) h.T place).demands) rest (argument_of calls h.scene h.at h.cells (argument.Place place)) p
         (tells_then h.scene.nodes s h.fr ((placed_of tcalls (at_frame h.fr h.site) h.T place).demands) (place_of calls h.scene h.at h.cells place) Standing _ _ (tells_place place h U is) (λ q spots. spots)) told

@@ -1,20 +1,18 @@
 -- After a `return` nothing is demanded and no term changes its value.
-use Rattle.std.proofs.Common.{◌≡◌, ℕ, zero, suc, Bool, true, false, cond, List, [], ◌∷◌, ◌++◌, length, map, Option, None, Some, refl, sym, ap, ◌∙◌, subst}
+use Rattle.std.proofs.Common.{◌≡◌, ℕ, Bool, true, false, cond, List, [], ◌∷◌, ◌++◌, length, Option, None, Some, refl, sym, ap, ◌∙◌, subst}
 use Rattle.std.specs.Prelude.{if◌then◌else◌, is_some}
 use Rattle.term_core.specs.declared.value.Value.{Value}
 use Rattle.term_core.specs.declared.term.Term as t
 use Rattle.term_core.specs.declared.term.Term.{Term}
-use Rattle.term_core.specs.Nodes.{is_node}
 use Rattle.term_core.specs.Values.{truth}
 use Rattle.term_core.specs.Meaning.{Cells, value_of}
 use Rattle.term_core.specs.Substitution.{lifted}
-use Rattle.murphi_typed.specs.declared.types.Simple.{Simple}
 use Rattle.murphi_typed.specs.declared.types.Simple.TheVariants as simple
 use Rattle.murphi_typed.specs.declared.stmt.Stmt as st
 use Rattle.murphi_typed.specs.declared.stmt.Stmt.{Stmt, Row_of-Stmt, end_of-Stmt, more_of-Stmt, Row_of-Arm, end_of-Arm, more_of-Arm, Row_of-Case, end_of-Case, more_of-Case}
-use Rattle.rule_inline.specs.Demands.{Demand, under_test, is_constant_false, binding, unless_left}
-use Rattle.rule_inline.specs.Tables.{Slot, Family, Leaving, Result, Terms, axes, Change, under_variable, writes, kept_if_left, unless_returned}
-use Rattle.rule_inline.specs.Parts.{Site, with_value, with_variable, Valued, Done, Calls, fixed_values, valued_of}
+use Rattle.rule_inline.specs.Demands.{Demand, under_test, is_constant_false, unless_left}
+use Rattle.rule_inline.specs.Tables.{Slot, Leaving, Terms, axes, under_variable, writes, kept_if_left}
+use Rattle.rule_inline.specs.Parts.{Site, with_value, Done, Calls, fixed_values, valued_of}
 use Rattle.rule_inline.specs.Bodies.{taken, turns, among, labels_of, done_by, all_done, arms_done, cases_done}
 use Rattle.rule_inline.proofs.TermLemmas.{value-If, is_true, lifted_by, lifted_end, length-one_more, append_nothing}
 use Rattle.rule_inline.proofs.Outcome.{AllHold, all_joined, constant_false, all_under, all_beside, all_left, all_binding}
@@ -54,10 +52,10 @@ module _ (N : ℕ) (s : Cells) where
       go false was = written (writes slot body.change) refl
 
   -- what holds after a return
-  abbrev Still : ℕ → List ℕ → Terms → Done → Type 0
+  abbrev pub Still : ℕ → List ℕ → Terms → Done → Type 0
   Still depth fr T body = AllHold N s fr body.demands × SameTerms depth fr T body.change.now
 
-  turns_left : (depth : ℕ) (fr : List ℕ) (body : Value → Terms → Done) → ((x : Value) (U : Terms) → is_true N s fr (U Leaving) ≡ true → Still depth fr U (body x U)) → (xs : List Value) (T : Terms) → is_true N s fr (T Leaving) ≡ true → Still depth fr T (turns body xs T)
+  pub turns_left : (depth : ℕ) (fr : List ℕ) (body : Value → Terms → Done) → ((x : Value) (U : Terms) → is_true N s fr (U Leaving) ≡ true → Still depth fr U (body x U)) → (xs : List Value) (T : Terms) → is_true N s fr (T Leaving) ≡ true → Still depth fr T (turns body xs T)
   turns_left depth fr body each [] T left = (tt, λ slot ns scope long. refl)
   turns_left depth fr body each (x ∷ xs) T left =
       let (first, same) = each x T left in

@@ -15,3 +15,15 @@ pub mod ExpressionLaw
 pub mod ChangeLemmas
 pub mod LeftLemmas
 pub mod EndLemmas
+pub mod StatementLemmas
+pub mod BranchLemmas
+pub mod StatementLaw
+pub mod CallLemmas
+pub mod CallLaw
+pub mod PrefixLemmas
+pub mod FormulaPrefix
+pub mod FirstTerms
+pub mod ParameterLemmas
+pub mod FormulaLaw
+pub mod KindLemmas
+pub mod LooplessLaw

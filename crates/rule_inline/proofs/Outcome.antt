@@ -1,7 +1,7 @@
 -- What the demands of a part that may fault say: where it faults one of them is false for some nodes, else all are
 -- true for all nodes and something holds of what it gives. One statement gives both directions, and goes from the
 -- parts to the whole.
-use Rattle.std.proofs.Common.{◌≡◌, ℕ, suc, ◌+◌, Bool, true, false, not, ◌&&◌, ◌||◌, List, [], ◌∷◌, ◌++◌, length, map, ◌⊎◌, inl, inr, refl, sym, ap, ◌∙◌, subst, append_assoc, arith}
+use Rattle.std.proofs.Common.{◌≡◌, ℕ, suc, Bool, true, false, not, ◌&&◌, ◌||◌, List, [], ◌∷◌, ◌++◌, length, map, ◌⊎◌, inl, inr, refl, sym, ap, ◌∙◌, append_assoc, arith}
 use Rattle.std.specs.Prelude.{if◌then◌else◌}
 use Rattle.std.specs.List.{list_all}
 use Rattle.std.proofs.lemmas.Bool.{and_parts}
@@ -14,7 +14,7 @@ use Rattle.term_core.specs.Meaning.{Cells, value_of}
 use Rattle.term_core.specs.Substitution.{lifted}
 use Rattle.murphi_typed.specs.Outcome.{Outcome, Got, Fault, given}
 use Rattle.rule_inline.specs.Demands.{Demand, demand, one_under, under_test, is_constant_false, one_unless, unless_left, one_binding, binding, negated, path_of, body_of}
-use Rattle.rule_inline.proofs.TermLemmas.{value-Known, value-Not, value-And, value-Or, is_true, and_of, or_of, lifted_by, append_nothing}
+use Rattle.rule_inline.proofs.TermLemmas.{value-Known, value-Not, value-And, value-Or, is_true, or_of, lifted_by, append_nothing}
 
 -- a part that faults, or gives something
 abbrev pub Either : {A : Type 0} → Type 0 → Type 0 → Outcome A → (A → Type 0) → Type 0

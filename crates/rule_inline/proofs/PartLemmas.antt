@@ -1,20 +1,16 @@
 -- Expressions, designators and arguments: where one faults a demand of it is false for some nodes, else its term has
 -- its value. What routines do is given.
-use Rattle.std.proofs.Common.{◌≡◌, ℕ, zero, suc, ◌+◌, ◌<◌, Bool, true, false, not, ◌&&◌, ◌||◌, cond, List, [], ◌∷◌, ◌++◌, length, map, Option, None, Some, ◌⊎◌, inl, inr, refl, sym, ap, ◌∙◌, subst, append_assoc, append-nil}
-use Rattle.std.specs.Prelude.{pos, slice_get, option_map, option_and_then, is_some, if◌then◌else◌, unwrap_or}
-use Rattle.std.specs.List.{list_all, list_any}
+use Rattle.std.proofs.Common.{◌≡◌, ℕ, Bool, true, false, not, ◌&&◌, ◌||◌, cond, List, [], ◌∷◌, ◌++◌, length, map, reverse, Option, None, Some, refl, sym, ap, ◌∙◌}
+use Rattle.std.specs.Prelude.{pos, slice_get, option_map, is_some, if◌then◌else◌}
 use Rattle.std.specs.Option.{option_map_or}
 use Rattle.std.proofs.lemmas.Bool.{and_parts}
-use Rattle.std.proofs.lemmas.Option.{slice_get_within}
 use Rattle.term_core.specs.declared.value.Value.{Value}
 use Rattle.term_core.specs.declared.value.Value.TheVariants as v
 use Rattle.term_core.specs.declared.value.ArithOp.TheVariants as operation
 use Rattle.term_core.specs.declared.term.Term as t
 use Rattle.term_core.specs.declared.term.Term.{Term}
-use Rattle.term_core.specs.Nodes.{is_node, nodes}
-use Rattle.term_core.specs.Values.{truth, number, same_value}
-use Rattle.term_core.specs.Meaning.{Cells, value_of, holds_at}
-use Rattle.term_core.specs.Laws.{PlacingBinds}
+use Rattle.term_core.specs.Values.{truth}
+use Rattle.term_core.specs.Meaning.{Cells, value_of}
 use Rattle.murphi_ast.specs.declared.token.Span.{Span}
 use Rattle.murphi_ast.specs.declared.expr.ChainOp.{ChainOp}
 use Rattle.murphi_ast.specs.declared.expr.ChainOp.TheVariants as op
@@ -24,43 +20,37 @@ use Rattle.murphi_typed.specs.declared.types.Simple.{Simple}
 use Rattle.murphi_typed.specs.declared.types.Simple.TheVariants as simple
 use Rattle.murphi_typed.specs.declared.types.AnyType as type
 use Rattle.murphi_typed.specs.declared.types.AnyType.{AnyType}
-use Rattle.murphi_typed.specs.declared.expr.Root.{Root}
-use Rattle.murphi_typed.specs.declared.expr.Expr as x
-use Rattle.murphi_typed.specs.declared.expr.Expr.{Expr, end_of-Expr, more_of-Expr, Row_of-Link, end_of-Link, more_of-Link}
-use Rattle.murphi_typed.specs.declared.expr.Designator as d
-use Rattle.murphi_typed.specs.declared.expr.Designator.{Designator, Row_of-Selector, end_of-Selector, more_of-Selector}
+use Rattle.murphi_typed.specs.declared.expr.Expr.{Row_of-Link, end_of-Link, more_of-Link}
+use Rattle.murphi_typed.specs.declared.expr.Designator.{Row_of-Selector, end_of-Selector, more_of-Selector}
 use Rattle.murphi_typed.specs.declared.expr.Selector as select
-use Rattle.murphi_typed.specs.declared.expr.Arguments as a
-use Rattle.murphi_typed.specs.declared.expr.Arguments.{Arguments, Row_of-Argument, end_of-Argument, more_of-Argument}
+use Rattle.murphi_typed.specs.declared.expr.Arguments.{Arguments, Row_of-Argument, more_of-Argument}
 use Rattle.murphi_typed.specs.declared.expr.Argument as argument
 use Rattle.murphi_typed.specs.declared.protocol.Routine.{Routine}
 use Rattle.murphi_typed.specs.declared.protocol.Formal.{Formal as DeclaredFormal}
-use Rattle.murphi_typed.specs.Forms.{NotForm, MinusForm, CompareForm, ImpliesForm, ChoiceForm, QuantifiedForm}
-use Rattle.murphi_typed.specs.Values.{is_value, values}
-use Rattle.murphi_typed.specs.Store.{Place, Contents, Cells as Store, cell_at, contents_at, only}
-use Rattle.murphi_typed.specs.Outcome.{Outcome, Got, Fault, given, or_fault}
-use Rattle.murphi_typed.specs.Expressions.{Given, Filled, Standing, Scene, Left, Calls, as_truth, calculated, joined, compared, defined, over_all, with_bound, root_place, under, row_path, fitting, value_of as worked, chain_value as worked_chain, place_of, indices_of as worked_indices, arguments_of, row_arguments, argument_of}
-use Rattle.murphi_typed.specs.Execution.{simple_type}
-use Rattle.murphi_typed.specs.Prefix.{is_over_nodes}
-use Rattle.murphi_typed.specs.WellTyped.{Scope, binding as scope_binding, numbers, widened, is_simple_type, root_type, simple_part, field_part, item_part, is_of, only_if, operand_type, comparable, first_of, rest_of, is_compound, place_fits, given_value, given_compound, given_place, type_of, chain_type, place_type, selected_type, arguments_fit, row_fits, argument_fits}
-use Rattle.murphi_typed.specs.Keeping.{Declared}
-use Rattle.murphi_typed.specs.Laws.{ValuesFitInBodies}
-use Rattle.rule_inline.specs.Demands.{Demand, demand, under_test, binding}
-use Rattle.rule_inline.specs.Tables.{Leaving, Result, Terms, under_variable, Index, Spot, Shown, shown_at, read_of, only_term}
-use Rattle.rule_inline.specs.Parts.{Given as Gift, Filled as Filling, Standing as Placing, Site, with_value, with_variable, Valued, Placed, Indexed, Argued, Calls as TermCalls, fixed_values, undefined, is_defined, index_fits, whole, result_fits, calculated as calculated_term, joined as joined_term, compared as compared_term, after, negated, compared_values, implied, choice, over_values, terms_of, mark_of, place_mark, root_spot, index_over, valued_of, chain_of, placed_of, indices_of, argued_of, row_argued}
+use Rattle.murphi_typed.specs.Values.{is_value}
+use Rattle.murphi_typed.specs.Store.{Contents, Cells as Store}
+use Rattle.murphi_typed.specs.Outcome.{Outcome, Got, Fault, given}
+use Rattle.murphi_typed.specs.Expressions.{Given, Filled, Standing, Scene, as_truth, calculated, joined, compared, defined, fitting, arguments_of}
+use Rattle.murphi_typed.specs.Execution.{simple_type, calls_of}
+use Rattle.murphi_typed.specs.WellTyped.{Scope, numbers, widened, simple_part, item_part, is_of, only_if, operand_type, comparable, first_of, rest_of, is_compound, may_write, root_of, place_fits, given_value, given_compound, given_place, type_of, chain_type, selected_type, arguments_fit, row_fits, argument_fits}
+use Rattle.murphi_typed.specs.Keeping.{Declared, IsTypedBody}
+use Rattle.murphi_typed.specs.declared.protocol.Typed.{Typed}
+use Rattle.rule_inline.specs.Demands.{Demand, demand, under_test}
+use Rattle.rule_inline.specs.Tables.{Leaving, Result, Terms, Index}
+use Rattle.rule_inline.specs.Parts.{Given as Gift, Filled as Filling, Standing as Placing, Site, Valued, Calls as TermCalls, is_defined, index_fits, whole, result_fits, calculated as calculated_term, joined as joined_term, compared as compared_term, after, negated, compared_values, implied, choice, index_over}
 use Rattle.rule_inline.proofs.ValueLemmas.{absurd_false}
-use Rattle.rule_inline.proofs.TermLemmas.{value-Known, value-Not, value-And, value-Or, value-If, value-Same, value-Less, value-Quantified, is_true, length-one_more, append_nothing}
-use Rattle.rule_inline.proofs.Outcome.{Either, either_map, AllHold, SomeFails, Tells, tells_given, tells_then, tells_map, tells_test, tells_under, all_beside}
-use Rattle.rule_inline.proofs.PlaceLemmas.{NoNodes, Rep, IndexIs, Leads}
-use Rattle.rule_inline.proofs.WriteLemmas.{Shows, only_shows, Spots, place_shows}
-use Rattle.rule_inline.proofs.TypeLemmas.{not_some, some_one, only_parts, simples_one, of_type, not_undefined, defined_is, index_is, EachValue, are_values, values_fixed, index_leads}
+use Rattle.rule_inline.proofs.TermLemmas.{value-Known, value-Not, value-And, value-Or, value-If, value-Same, value-Less, is_true}
+use Rattle.rule_inline.proofs.Outcome.{Either, Tells, tells_given, tells_then, tells_map, tells_test, tells_under, all_beside}
+use Rattle.rule_inline.proofs.PlaceLemmas.{Rep, IndexIs, Leads}
+use Rattle.rule_inline.proofs.WriteLemmas.{Shows, Spots}
+use Rattle.rule_inline.proofs.TypeLemmas.{not_some, some_one, simples_one, of_type, defined_is, index_is, EachValue, index_leads}
 use Rattle.rule_inline.proofs.ArithLemmas.{number_value, tells_calculated, Storable}
-use Rattle.rule_inline.proofs.SceneLemmas.{Sound, sound_binding, GiftIs, GiftsAre, bound_there, rep_under, at_frame, inner, Sited, site_under, site_value, root_spots}
-use Rattle.rule_inline.proofs.QuantifierLemmas.{given_twice, tells_before, tells_after, tells_nodes, quantified, tells_values}
+use Rattle.rule_inline.proofs.SceneLemmas.{Sound, at_frame, Sited}
+use Rattle.rule_inline.proofs.QuantifierLemmas.{tells_before, tells_after}
 
 -- Types of parts
 
-simple_found : (o : Option AnyType) (s : Simple) → simple_part o ≡ Some s → o ≡ Some (type.Simple s)
+pub simple_found : (o : Option AnyType) (s : Simple) → simple_part o ≡ Some s → o ≡ Some (type.Simple s)
 simple_found None s e = not_some e
 simple_found (Some (type.Simple u)) s e = ap (λ w. Some (type.Simple w)) (some_one e)
 simple_found (Some (type.Record' _ fields)) s e = not_some e
@@ -130,7 +120,7 @@ comparable_types compare.Greater left right e = numbers_of left right e
 comparable_types compare.GreaterEqual left right e = numbers_of left right e
 
 -- a body at a place of its run, with the terms that represent it
-pub record Here (s : Cells) (types : Declared) (calls : Calls) (routines : List Routine) : Type 0 where
+pub record Here (s : Cells) (P : Typed) (latest : List Routine) (types : Declared) : Type 0 where
   pub scope : Scope
   pub scene : Scene
   pub fr : List ℕ
@@ -138,7 +128,8 @@ pub record Here (s : Cells) (types : Declared) (calls : Calls) (routines : List 
   pub T : Terms
   pub cells : Store
   pub at : Span
-  pub sound : Sound types calls routines scope scene cells
+  pub typed : IsTypedBody P latest types scope scene cells
+  pub sound : Sound types (calls_of latest) (reverse latest) scope scene cells
   pub sited : Sited s fr site scene
   pub rep : Rep scene.nodes s scene.depth fr T cells
 
@@ -153,19 +144,18 @@ ArgIs N s depth fr formal (Placing spot) (Filled contents) = ⊥
 ArgIs N s depth fr formal (Placing spot) (Standing place) = Spots N s depth fr spot place
 
 abbrev pub ArgsAre : ℕ → Cells → ℕ → List ℕ → List DeclaredFormal → List Gift → List Given → Type 0
-ArgsAre N s depth fr formals [] [] = Unit {0}
-ArgsAre N s depth fr formals [] (g ∷ gs) = ⊥
-ArgsAre N s depth fr formals (f ∷ fs) [] = ⊥
-ArgsAre N s depth fr formals (f ∷ fs) (g ∷ gs) = ArgIs N s depth fr (first_of formals) f g × ArgsAre N s depth fr (rest_of formals) fs gs
+ArgsAre N s depth fr [] [] [] = Unit {0}
+ArgsAre N s depth fr (d ∷ ds) (f ∷ fs) (g ∷ gs) = ArgIs N s depth fr (Some d) f g × ArgsAre N s depth fr ds fs gs
+ArgsAre N s depth fr _ _ _ = ⊥
 
 -- what is asked of a call of a function with arguments that were worked out
-abbrev pub FunctionTells : (s : Cells) (types : Declared) (calls : Calls) (routines : List Routine) (tcalls : TermCalls) → Here s types calls routines → Type 0
-FunctionTells s types calls routines tcalls h =
+abbrev pub FunctionTells : (s : Cells) (P : Typed) (latest : List Routine) (types : Declared) (tcalls : TermCalls) → Here s P latest types → Type 0
+FunctionTells s P latest types tcalls h =
     (k : ℕ) (r : Routine) (u : Simple) (args : Arguments) (gs : List Given) (gifts : List Gift)
-    → slice_get routines k ≡ Some r → r.result ≡ Some u → arguments_fit h.scope r.formals args ≡ true
-    → arguments_of calls h.scene h.at h.cells args ≡ Got gs
+    → slice_get (reverse latest) k ≡ Some r → r.result ≡ Some u → arguments_fit h.scope r.formals args ≡ true
+    → arguments_of (calls_of latest) h.scene h.at h.cells args ≡ Got gs
     → ArgsAre h.scene.nodes s h.scene.depth h.fr r.formals gifts gs
-    → Tells h.scene.nodes s h.fr (calls k h.scene h.at gs h.cells) ((tcalls k (at_frame h.fr h.site) h.T gifts).demands ++ demand ((tcalls k (at_frame h.fr h.site) h.T gifts).change.now Leaving) ∷ [])
+    → Tells h.scene.nodes s h.fr (calls_of latest k h.scene h.at gs h.cells) ((tcalls k (at_frame h.fr h.site) h.T gifts).demands ++ demand ((tcalls k (at_frame h.fr h.site) h.T gifts).change.now Leaving) ∷ [])
     (λ left. (w : Value) × (left.result ≡ Some w) × (value_of h.scene.nodes s h.fr ((tcalls k (at_frame h.fr h.site) h.T gifts).change.now Result) ≡ w))
 
 pub operand_widened : (by : ChainOp) → widened (operand_type by) ≡ operand_type by
@@ -211,6 +201,14 @@ place_typed (Some f) None e = absurd_false (sym (go f.by_place) ∙ e)
     go true = refl
     go false = refl
 
+-- no argument fits where no formal is
+pub none_fits : {R : Type 0} (scope : Scope) (first : argument.Argument) → argument_fits scope None first ≡ true → R
+unfolding type_of
+none_fits scope (argument.Copy place) e = absurd_false e
+none_fits scope (argument.CopyAll place) e = absurd_false e
+none_fits scope (argument.Value body) e = absurd_false e
+none_fits scope (argument.Place place) e = let (writable, wrong) = and_parts (may_write scope (root_of place)) false e in absurd_false wrong
+
 -- what is given to a formal by value of simple type is of that type, as far as bounds go
 into_part : (U : AnyType) (into : Simple) → simple_type U ≡ Some into → simple_part (Some U) ≡ Some into
 into_part (type.Simple w) into e = e
@@ -236,7 +234,6 @@ given_no_simple (Some g) found f into e is simple =
     let (by_value, rest) = and_parts (not g.by_place) (is_compound g.of && place_fits g.of found) e in
     let (compound, other) = and_parts (is_compound g.of) (place_fits g.of found) rest in
     absurd_false (sym (ap (λ (h : DeclaredFormal). is_compound h.of) same ∙ no_compound f.of into simple) ∙ compound)
-
 
 pub each_map : {P Q : Value → Type 0} (xs : List Value) → ((y : Value) → P y → Q y) → EachValue P xs → EachValue Q xs
 each_map [] f e = tt

@@ -1,27 +1,26 @@
 -- Places: terms represent a store where each family in scope has the value of its cells, whatever its indices are. Reading at
 -- the terms of the indices gives the cell that they lead to.
-use Rattle.std.proofs.Common.{◌≡◌, ℕ, zero, suc, ◌+◌, ◌-◌, ◌<◌, Bool, true, false, ◌&&◌, cond, List, [], ◌∷◌, ◌++◌, length, map, Option, None, Some, ◌⊎◌, inl, inr, refl, sym, ap, ◌∙◌, subst, append_assoc, arith}
+use Rattle.std.proofs.Common.{◌≡◌, ℕ, zero, suc, ◌+◌, Bool, true, false, ◌&&◌, cond, List, [], ◌∷◌, ◌++◌, length, map, None, Some, ◌⊎◌, inl, inr, refl, sym, ap, ◌∙◌, subst, append_assoc, arith}
 use Rattle.std.specs.Prelude.{slice_get, nat_le}
 use Rattle.std.specs.List.{list_all, flat_map}
 use Rattle.std.specs.Option.{option_map_or}
 use Rattle.std.proofs.lemmas.Bool.{and_parts}
-use Rattle.std.proofs.lemmas.List.{length-append, length-map}
+use Rattle.std.proofs.lemmas.List.{length-append}
 use Rattle.term_core.specs.declared.value.Value.{Value}
 use Rattle.term_core.specs.declared.value.Value.TheVariants as v
 use Rattle.term_core.specs.declared.term.Term as t
 use Rattle.term_core.specs.declared.term.Term.{Term}
-use Rattle.term_core.specs.Nodes.{is_node, nodes_from}
+use Rattle.term_core.specs.Nodes.{is_node}
 use Rattle.term_core.specs.Values.{truth, same_value}
-use Rattle.term_core.specs.Meaning.{Cells, value_of, bound_node}
+use Rattle.term_core.specs.Meaning.{Cells, value_of}
 use Rattle.term_core.specs.Variables.{is_no_node}
-use Rattle.term_core.specs.Substitution.{lifted, placed}
 use Rattle.term_core.specs.Laws.{PlacingBinds}
 use Rattle.murphi_typed.specs.Families.{Path}
 use Rattle.murphi_typed.specs.Store.{Owner, Global, Local, Formal, Cells as Store}
 use Rattle.rule_inline.specs.Tables.{Key, holes, Slot, Family, Terms, variables, lifted_all, Index, Axis, Among, Spot, Entry, with_axis, with_value, entries, read_at, tested, chain_of}
 use Rattle.rule_inline.specs.Presents.{at_nodes}
 use Rattle.rule_inline.proofs.ValueLemmas.{values_one, value_itself, absurd_false}
-use Rattle.rule_inline.proofs.TermLemmas.{value-Known, value-Var, value-And, value-If, value-Same, is_true, and_of, get_first, get_past, lifted_by, lifted_terms, append_nothing}
+use Rattle.rule_inline.proofs.TermLemmas.{value-Known, value-Var, value-And, value-If, value-Same, is_true, and_of, lifted_by, lifted_terms, append_nothing}
 use Rattle.rule_inline.proofs.Outcome.{Nodes}
 
 -- no index that is fixed is a node
@@ -104,10 +103,11 @@ module _ (N : ℕ) (s : Cells) where
 
   pub stand_variables : (before ns after : List ℕ) → Stand (before ++ (ns ++ after)) (variables (length before) (length ns)) ns
   stand_variables before [] after = tt
-  stand_variables before (n ∷ ns) after =
-      (variable_there before n (ns ++ after),
-      subst (λ fr. Stand fr (variables (suc (length before)) (length ns)) ns) (append_assoc before (n ∷ []) (ns ++ after))
-      (subst (λ k. Stand ((before ++ n ∷ []) ++ (ns ++ after)) (variables k (length ns)) ns) (length-append before (n ∷ []) ∙ omega arith) (stand_variables (before ++ n ∷ []) ns after)))
+  stand_variables before (n ∷ ns) after = (
+    variable_there before n (ns ++ after),
+    subst (λ fr. Stand fr (variables (suc (length before)) (length ns)) ns) (append_assoc before (n ∷ []) (ns ++ after))
+        (subst (λ k. Stand ((before ++ n ∷ []) ++ (ns ++ after)) (variables k (length ns)) ns) (length-append before (n ∷ []) ∙ omega arith) (stand_variables (before ++ n ∷ []) ns after)),
+  )
 
   -- all variables of a frame, and the first and the last of it
   pub stand_frame : (fr more : List ℕ) → Stand (fr ++ more) (variables 0 (length fr)) fr
@@ -169,14 +169,17 @@ module _ (N : ℕ) (s : Cells) where
 
     settle_axis : (i : Term) (n : ℕ) (at : List Value) (es : List Entry) → value_of N s fr i ≡ v.Node n → is_node N n ≡ true → AllSettle fr at es → AllSettle fr (v.Node n ∷ at) (map (with_axis i) es)
     settle_axis i n at [] e is a = tt
-    settle_axis i n at (x ∷ es) e is (settles, a) =
-        (λ h. (let r = settles h in record {
-          ns = n ∷ r.ns;
-          at_is = ap (λ vs. v.Node n ∷ vs) r.at_is;
-          stand = (e, r.stand);
-          no_nodes = r.no_nodes;
-          count = ap suc r.count;
-          nodes = and_of is r.nodes }), settle_axis i n at es e is a)
+    settle_axis i n at (x ∷ es) e is (settles, a) = (
+      λ h. (let r = settles h in record {
+        ns = n ∷ r.ns;
+        at_is = ap (λ vs. v.Node n ∷ vs) r.at_is;
+        stand = (e, r.stand);
+        no_nodes = r.no_nodes;
+        count = ap suc r.count;
+        nodes = and_of is r.nodes;
+      }),
+      settle_axis i n at es e is a,
+    )
 
     there_axis : (i : Term) (es : List Entry) → There fr es → There fr (map (with_axis i) es)
     there_axis i [] a = absurd a
@@ -189,16 +192,19 @@ module _ (N : ℕ) (s : Cells) where
 
       settle_value : (w : Value) (es : List Entry) → is_no_node w ≡ true → AllSettle fr at es → AllSettle fr (x ∷ at) (map (with_value i w) es)
       settle_value w [] none a = tt
-      settle_value w (e ∷ es) none (settles, a) =
-          (λ h. (let (same, rest) = and_parts (same_value x w) (list_all (is_true N s fr) e.tests) (sym (test_value w e.tests) ∙ h) in
-          let r = settles rest in
-          record {
-            ns = r.ns;
-            at_is = ap (λ y. y ∷ at_nodes e.key r.ns) (sym (values_one x w same)) ∙ ap (λ vs. x ∷ vs) r.at_is;
-            stand = r.stand;
-            no_nodes = (none, r.no_nodes);
-            count = r.count;
-            nodes = r.nodes }), settle_value w es none a)
+      settle_value w (e ∷ es) none (settles, a) = (
+        λ h. (let (same, rest) = and_parts (same_value x w) (list_all (is_true N s fr) e.tests) (sym (test_value w e.tests) ∙ h) in
+            let r = settles rest in
+            record {
+              ns = r.ns;
+              at_is = ap (λ y. y ∷ at_nodes e.key r.ns) (sym (values_one x w same)) ∙ ap (λ vs. x ∷ vs) r.at_is;
+              stand = r.stand;
+              no_nodes = (none, r.no_nodes);
+              count = r.count;
+              nodes = r.nodes;
+            }),
+        settle_value w es none a,
+      )
 
       settle_values : (ws : List Value) (es : List Entry) → list_all is_no_node ws ≡ true → AllSettle fr at es → AllSettle fr (x ∷ at) (flat_map (λ w. map (with_value i w) es) ws)
       settle_values [] es none a = tt
@@ -241,8 +247,8 @@ module _ (N : ℕ) (s : Cells) where
     read_right : (e : Entry) → Right fr at e → value_of N s (fr ++ more) (read_at (length fr) T spot path key e) ≡ c spot.owner (spot.path ++ path) (at ++ at_nodes key more)
     read_right e r =
         let stands : Stand (fr ++ more) (all_terms e) (fr ++ (r.ns ++ more)) =
-            stand_joined (fr ++ more) (variables 0 (length fr)) (lifted_all (length fr) (holes key) e.nodes ++ variables (length fr) (holes key)) fr (r.ns ++ more) (stand_frame fr more)
-            (stand_joined (fr ++ more) (lifted_all (length fr) (holes key) e.nodes) (variables (length fr) (holes key)) r.ns more (stand_lifted fr more (holes key) e.nodes r.ns long r.stand) (stand_last fr more (holes key) long)) in
+        stand_joined (fr ++ more) (variables 0 (length fr)) (lifted_all (length fr) (holes key) e.nodes ++ variables (length fr) (holes key)) fr (r.ns ++ more) (stand_frame fr more)
+        (stand_joined (fr ++ more) (lifted_all (length fr) (holes key) e.nodes) (variables (length fr) (holes key)) r.ns more (stand_lifted fr more (holes key) e.nodes r.ns long r.stand) (stand_last fr more (holes key) long)) in
         let l : length (fr ++ more) ≡ length fr + holes key = length-append fr more ∙ ap (λ m. length fr + m) long in
         binds N s (fr ++ more) (fr ++ (r.ns ++ more)) (length fr + holes key) (all_terms e) (T (slot e)) l (stand_length (fr ++ more) (all_terms e) (fr ++ (r.ns ++ more)) stands)
         (λ k by n occurs at_k node_k. stand_at (fr ++ more) (all_terms e) (fr ++ (r.ns ++ more)) stands k by n at_k node_k)

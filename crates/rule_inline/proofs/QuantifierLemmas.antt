@@ -1,11 +1,10 @@
 -- Quantifiers, and parts that follow parts.
-use Rattle.std.proofs.Common.{◌≡◌, ℕ, zero, suc, ◌+◌, ◌<◌, ◌≤◌, Bool, true, false, not, ◌&&◌, ◌||◌, cond, List, [], ◌∷◌, ◌++◌, map, refl, sym, ap, ◌∙◌, subst, arith}
+use Rattle.std.proofs.Common.{◌≡◌, ℕ, zero, suc, ◌+◌, ◌<◌, ◌≤◌, Bool, true, false, ◌&&◌, ◌||◌, List, [], ◌∷◌, ◌++◌, map, refl, sym, ap, ◌∙◌, subst, arith}
 use Rattle.std.specs.Prelude.{nat_le, nat_eq, if◌then◌else◌}
 use Rattle.std.specs.List.{list_all, list_any}
 use Rattle.std.proofs.lemmas.Bool.{and_parts}
 use Rattle.term_core.specs.declared.value.Value.{Value}
 use Rattle.term_core.specs.declared.value.Value.TheVariants as v
-use Rattle.term_core.specs.declared.term.Term.{Term}
 use Rattle.term_core.specs.Nodes.{is_node, nodes, nodes_from}
 use Rattle.term_core.specs.Values.{truth}
 use Rattle.term_core.specs.Meaning.{Cells, value_of, holds_at}
@@ -13,8 +12,8 @@ use Rattle.murphi_typed.specs.Outcome.{Outcome, Got, Fault, given}
 use Rattle.murphi_typed.specs.Expressions.{over_all}
 use Rattle.rule_inline.specs.Demands.{Demand, binding}
 use Rattle.rule_inline.specs.Parts.{Valued, terms_of, demands_of}
-use Rattle.rule_inline.proofs.TermLemmas.{is_true, and_of, or_of}
-use Rattle.rule_inline.proofs.Outcome.{Either, either_map, AllHold, SomeFails, Tells, all_joined, fails_joined, fails_first, fails_second, tells_given, tells_then, all_binding, fails_binding}
+use Rattle.rule_inline.proofs.TermLemmas.{is_true, and_of}
+use Rattle.rule_inline.proofs.Outcome.{Either, either_map, AllHold, SomeFails, Tells, all_joined, fails_first, fails_second, tells_given, tells_then, all_binding, fails_binding}
 use Rattle.rule_inline.proofs.TypeLemmas.{EachValue}
 
 pub given_twice : {A B C : Type 0} (o : Outcome A) (f : A → Outcome B) (g : B → Outcome C) → given (given o f) g ≡ given o (λ a. given (f a) g)

@@ -1,29 +1,28 @@
 -- What is known of a body that runs, and of the site at which it is taken as terms.
-use Rattle.std.proofs.Common.{◌≡◌, ℕ, zero, suc, ◌+◌, ◌-◌, ◌<◌, ◌≤◌, Bool, true, false, cond, List, [], ◌∷◌, ◌++◌, length, map, Option, None, Some, refl, sym, ap, ◌∙◌, subst, append_assoc, arith}
-use Rattle.std.specs.Prelude.{nat_lt, nat_le, nat_eq, slice_get, unwrap_or}
+use Rattle.std.proofs.Common.{◌≡◌, ℕ, zero, suc, ◌-◌, ◌<◌, ◌≤◌, Bool, true, false, List, [], ◌∷◌, ◌++◌, length, map, reverse, Some, refl, sym, ap, ◌∙◌, subst, append_assoc, arith}
+use Rattle.std.specs.Prelude.{nat_lt, nat_le, slice_get, unwrap_or}
 use Rattle.std.specs.Option.{option_map_or}
 use Rattle.term_core.specs.declared.value.Value.{Value}
 use Rattle.term_core.specs.declared.value.Value.TheVariants as v
 use Rattle.term_core.specs.declared.term.Term as t
 use Rattle.term_core.specs.declared.term.Term.{Term}
-use Rattle.term_core.specs.Nodes.{is_node}
 use Rattle.term_core.specs.Meaning.{Cells, value_of}
 use Rattle.term_core.specs.Substitution.{lifted}
 use Rattle.murphi_typed.specs.declared.types.Simple.{Simple}
-use Rattle.murphi_typed.specs.declared.types.AnyType.{AnyType}
 use Rattle.murphi_typed.specs.declared.expr.Root.{Root}
 use Rattle.murphi_typed.specs.declared.expr.Root.TheVariants as root
 use Rattle.murphi_typed.specs.declared.protocol.Routine.{Routine}
 use Rattle.murphi_typed.specs.Values.{is_value}
 use Rattle.murphi_typed.specs.Store.{Owner, Global, Local, Formal, Place, Cells as Store}
 use Rattle.murphi_typed.specs.Expressions.{Given, Filled, Standing, Scene, Calls, with_bound, whole, stood_for, root_place}
-use Rattle.murphi_typed.specs.WellTyped.{Scope, binding, root_type, is_simple_type}
-use Rattle.murphi_typed.specs.Keeping.{Declared, AreKept, SceneFits, RootsFine, BoundFits, ResultsFit, HasType}
-use Rattle.rule_inline.specs.Tables.{Slot, Family, Terms, under_variable, Index, Axis, Among, Spot, lifted_index, lifted_spot}
-use Rattle.rule_inline.specs.Parts.{Given as Gift, Filled as Filling, Standing as Placing, Site, lifted_given, with_value, with_variable, undefined, bound_term, whole_spot, root_spot, stood_for as stood_in}
+use Rattle.murphi_typed.specs.WellTyped.{Scope, binding, is_simple_type}
+use Rattle.murphi_typed.specs.Keeping.{Declared, AreKept, SceneFits, RootsFine, BoundFits, ResultsFit, IsTypedBody}
+use Rattle.murphi_typed.specs.declared.protocol.Typed.{Typed}
+use Rattle.rule_inline.specs.Tables.{Family, Terms, under_variable, Index, Axis, Among, Spot, lifted_index, lifted_spot}
+use Rattle.rule_inline.specs.Parts.{Given as Gift, Filled as Filling, Standing as Placing, Site, lifted_given, with_value, undefined, whole_spot, root_spot, stood_for as stood_in}
 use Rattle.rule_inline.proofs.TypeLemmas.{not_some, some_one}
 use Rattle.rule_inline.proofs.TermLemmas.{value-Known, value-Var, lifted_between, lifted_end, get_first, get_past, length-one_more}
-use Rattle.rule_inline.proofs.PlaceLemmas.{reaches, Rep, IndexIs, Leads, variable_there}
+use Rattle.rule_inline.proofs.PlaceLemmas.{reaches, Rep, Leads, variable_there}
 use Rattle.rule_inline.proofs.WriteLemmas.{Spots}
 
 -- a body that keeps to its types
@@ -77,7 +76,25 @@ sound_binding types calls routines scope scene cells over x sound is fine = reco
   lengths = length-one_more scope.bound over ∙ ap suc sound.lengths ∙ sym (length-one_more scene.bound x);
   results = sound.results;
   kept = sound.kept;
-  known = sound.known }
+  known = sound.known;
+}
+
+pub typed_binding : (P : Typed) (latest : List Routine) (types : Declared) (calls : Calls) (scope : Scope) (scene : Scene) (cells : Store) (over : Simple) (x : Value) → Sound types calls (reverse latest) scope scene cells → IsTypedBody P latest types scope scene cells → is_value scene.nodes over x ≡ true → is_simple_type scope.kinds over ≡ true → IsTypedBody P latest types (binding scope over) (with_bound scene x) cells
+typed_binding P latest types calls scope scene cells over x sound typed is fine =
+    let more = sound_binding types calls (reverse latest) scope scene cells over x sound is fine in
+    record {
+      kinds = typed.kinds;
+      globals = typed.globals;
+      routines = typed.routines;
+      known = typed.known;
+      fits = more.fits;
+      fine = more.fine;
+      bound = more.bound;
+      lengths = more.lengths;
+      shallow = typed.shallow;
+      declared = typed.declared;
+      kept = typed.kept;
+    }
 
 -- the terms of bound variables are constants, and variables of the frame
 abbrev pub IsBound : ℕ → Term → Type 0
@@ -179,13 +196,15 @@ pub site_under : (s : Cells) (fr : List ℕ) (site : Site) (scene : Scene) (n : 
 site_under s fr site scene n sited = record {
   depth = sited.depth;
   bound = bound_joined scene.nodes s (fr ++ n ∷ []) site.bound scene.bound (t.Var (length fr)) (v.Node n) (bound_under scene.nodes s fr site.bound scene.bound n sited.bound) (variable_there scene.nodes s fr n []) (let l = length-one_more fr n in omega (arith, l));
-  formals = gifts_under scene.nodes s scene.depth fr site.formals scene.formals n sited.formals }
+  formals = gifts_under scene.nodes s scene.depth fr site.formals scene.formals n sited.formals;
+}
 
 pub site_value : (s : Cells) (fr : List ℕ) (site : Site) (scene : Scene) (x : Value) → Sited s fr site scene → Sited s fr (with_value site x) (with_bound scene x)
 site_value s fr site scene x sited = record {
   depth = sited.depth;
   bound = bound_joined scene.nodes s fr site.bound scene.bound (t.Known x) x sited.bound (value-Known scene.nodes s fr x) tt;
-  formals = sited.formals }
+  formals = sited.formals;
+}
 
 -- the place of a variable
 module _ (N : ℕ) (s : Cells) (depth : ℕ) (fr : List ℕ) where

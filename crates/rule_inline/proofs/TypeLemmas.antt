@@ -1,24 +1,22 @@
 -- Types of parts, the values of a type in their list, and what an index and a range ask.
-use Rattle.std.proofs.Common.{◌≡◌, ℕ, zero, suc, ◌+◌, ◌<◌, ◌≤◌, Bool, true, false, not, ◌&&◌, cond, List, [], ◌∷◌, map, Option, None, Some, ◌⊎◌, inl, inr, refl, sym, ap, ◌∙◌, subst, arith}
+use Rattle.std.proofs.Common.{◌≡◌, ℕ, zero, suc, ◌+◌, ◌<◌, ◌≤◌, Bool, true, false, not, ◌&&◌, List, [], ◌∷◌, map, Option, None, Some, inl, inr, refl, sym, ap, ◌∙◌, subst, arith}
 use Rattle.std.specs.Prelude.{ℤ, pos, negsuc, ◌+ℤ◌, ◌-ℤ◌, int_lt, int_le, nat_eq, nat_lt, if◌then◌else◌}
 use Rattle.std.specs.List.{list_all}
-use Rattle.std.specs.Option.{option_map_or}
 use Rattle.std.proofs.lemmas.Int.{ints}
 use Rattle.std.proofs.lemmas.Bool.{and_parts}
 use Rattle.term_core.specs.declared.value.Value.{Value}
 use Rattle.term_core.specs.declared.value.Value.TheVariants as v
 use Rattle.term_core.specs.declared.term.Term as t
 use Rattle.term_core.specs.declared.term.Term.{Term}
-use Rattle.term_core.specs.Nodes.{is_node, nodes_from, nodes}
+use Rattle.term_core.specs.Nodes.{is_node, nodes_from}
 use Rattle.term_core.specs.Values.{truth, number, same_value, same_number, is_number}
 use Rattle.term_core.specs.Meaning.{Cells, value_of}
 use Rattle.term_core.specs.Variables.{is_no_node}
 use Rattle.murphi_typed.specs.declared.types.Simple.{Simple}
 use Rattle.murphi_typed.specs.declared.types.Simple.TheVariants as simple
-use Rattle.murphi_typed.specs.Values.{is_value, may_hold, numbers_from, numbers_within, members, values}
+use Rattle.murphi_typed.specs.Values.{is_value, numbers_from, numbers_within, members, values}
 use Rattle.murphi_typed.specs.Prefix.{is_over_nodes}
 use Rattle.murphi_typed.specs.WellTyped.{numbers, widened, same_simple, is_of, only_if}
-use Rattle.rule_inline.specs.Demands.{Demand, demand}
 use Rattle.rule_inline.specs.Tables.{Index}
 use Rattle.rule_inline.specs.Parts.{fixed_values, undefined, is_defined, at_most, bounds, index_fits, index_over}
 use Rattle.rule_inline.proofs.ValueLemmas.{absurd_false, nats_one, nat_itself}
@@ -210,9 +208,10 @@ each_member P kind first (suc count) each = (each first (omega arith) (omega ari
 
 each_number : (P : Value → Type 0) (low : ℤ) (count : ℕ) → ((z : ℤ) → int_le low z ≡ true → int_lt z (low +ℤ pos count) ≡ true → P (v.Number z)) → EachValue P (map v.Number (numbers_from low count))
 each_number P low zero each = tt
-each_number P low (suc count) each =
-    (each low (itself low) (further low count),
-    each_number P (low +ℤ pos 1) count (λ z above below. each z (less low z above) (sym (ap (int_lt z) (next_number low count)) ∙ below)))
+each_number P low (suc count) each = (
+  each low (itself low) (further low count),
+  each_number P (low +ℤ pos 1) count (λ z above below. each z (less low z above) (sym (ap (int_lt z) (next_number low count)) ∙ below)),
+)
   where
     itself : (z : ℤ) → int_le z z ≡ true
     itself (pos z) = grind arith

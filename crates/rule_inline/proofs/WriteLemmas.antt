@@ -1,6 +1,6 @@
 -- Writing: where the terms represent a store, those after a write represent the store after it, whichever cells the
 -- indices lead to.
-use Rattle.std.proofs.Common.{◌≡◌, ℕ, zero, suc, ◌+◌, Bool, true, false, ◌&&◌, cond, List, [], ◌∷◌, ◌++◌, length, Option, None, Some, ◌⊎◌, inl, inr, refl, sym, ap, ◌∙◌, subst, append_assoc, arith}
+use Rattle.std.proofs.Common.{◌≡◌, ℕ, suc, ◌+◌, Bool, true, false, ◌&&◌, cond, List, [], ◌∷◌, ◌++◌, length, Option, None, Some, inl, inr, refl, sym, ap, ◌∙◌, subst, append_assoc, arith}
 use Rattle.std.specs.Prelude.{nat_eq, option_map, option_and_then, unwrap_or, if◌then◌else◌}
 use Rattle.std.specs.List.{list_all}
 use Rattle.std.specs.Str.{bytes_eq}
@@ -18,12 +18,12 @@ use Rattle.term_core.specs.Substitution.{lifted}
 use Rattle.term_core.specs.Laws.{PlacingBinds}
 use Rattle.murphi_typed.specs.Families.{Path}
 use Rattle.murphi_typed.specs.Store.{Owner, same_owner, Place, Contents, Cells as Store, contents_at, beyond, renewed, written as store_written, only}
-use Rattle.rule_inline.specs.Tables.{Key, holes, Slot, Family, Terms, Index, Axis, Among, Spot, entries, Shown, shown_at, only_term, Match, on_axis, on_value, matched, renewed_term, new_terms, written}
+use Rattle.rule_inline.specs.Tables.{Key, holes, Slot, Family, Terms, Index, Axis, Among, Spot, Shown, shown_at, only_term, Match, on_axis, on_value, matched, renewed_term, written}
 use Rattle.rule_inline.specs.Presents.{at_nodes}
 use Rattle.rule_inline.proofs.ValueLemmas.{absurd_false}
-use Rattle.rule_inline.proofs.TermLemmas.{value-Known, value-And, value-If, value-Same, is_true, and_of, lifted_between, lifted_by, append_nothing}
+use Rattle.rule_inline.proofs.TermLemmas.{value-Known, value-And, value-If, value-Same, is_true, lifted_between, lifted_by}
 use Rattle.rule_inline.proofs.Outcome.{Nodes}
-use Rattle.rule_inline.proofs.PlaceLemmas.{NoNodes, reaches, Rep, Has, IndexIs, Leads, variable_there, shown_value}
+use Rattle.rule_inline.proofs.PlaceLemmas.{NoNodes, reaches, Rep, Has, Leads, variable_there, shown_value}
 
 node_other : (n : ℕ) (w : Value) → is_no_node w ≡ true → same_value (v.Node n) w ≡ false
 node_other n v.Undefined e = refl
@@ -105,7 +105,8 @@ module _ (N : ℕ) (s : Cells) where
       nodes = e.nodes;
       found = ap (λ o. cond (same_value x (v.Node n)) o None) e.found
           ∙ nested_axis (same_value x (v.Node n)) (list_all (is_true N s frame) w.tests) (list_all (is_true N s frame) w.sames) (Some (at_nodes w.rest e.rest))
-          ∙ ap (λ b. cond (list_all (is_true N s frame) w.tests && (b && list_all (is_true N s frame) w.sames)) (Some (at_nodes w.rest e.rest)) None) same }
+          ∙ ap (λ b. cond (list_all (is_true N s frame) w.tests && (b && list_all (is_true N s frame) w.sames)) (Some (at_nodes w.rest e.rest)) None) same;
+    }
       where
         same : same_value x (v.Node n) ≡ is_true N s frame (t.Same (t.Var axis) i)
         same = ap (λ y. same_value y (v.Node n)) x_is ∙ nodes_turned m n ∙ sym (ap truth (value-Same N s frame (t.Var axis) i) ∙ ap (λ y. same_value y (value_of N s frame i)) axis_is ∙ ap (same_value (v.Node n)) i_is)
@@ -122,7 +123,8 @@ module _ (N : ℕ) (s : Cells) where
       nodes = e.nodes;
       found = ap (λ o. cond (same_value x w) o None) e.found
           ∙ nested_value (same_value x w) (list_all (is_true N s frame) m.tests) (list_all (is_true N s frame) m.sames) (Some (at_nodes m.rest e.rest))
-          ∙ ap (λ b. cond ((b && list_all (is_true N s frame) m.tests) && list_all (is_true N s frame) m.sames) (Some (at_nodes m.rest e.rest)) None) (sym same) }
+          ∙ ap (λ b. cond ((b && list_all (is_true N s frame) m.tests) && list_all (is_true N s frame) m.sames) (Some (at_nodes m.rest e.rest)) None) (sym same);
+    }
       where
         same : is_true N s frame (t.Same i (t.Known w)) ≡ same_value x w
         same = ap truth (value-Same N s frame i (t.Known w)) ∙ ap (λ y. same_value y (value_of N s frame (t.Known w))) is ∙ ap (same_value x) (value-Known N s frame w)
@@ -141,8 +143,8 @@ module _ (N : ℕ) (s : Cells) where
         let (first, rest) = and_parts (is_node N n) (list_all (is_node N) ns) nodes in
         let moved : (done ++ n ∷ []) ++ ns ≡ done ++ n ∷ ns = append_assoc done (n ∷ []) ns in
         let inner : IsMatch (fr ++ (done ++ n ∷ ns)) at key ns (matched (lifted (length fr) total) (suc axis) is key) =
-            subst (λ xs. IsMatch (fr ++ xs) at key ns (matched (lifted (length fr) total) (suc axis) is key)) moved
-            (match_is is at key (done ++ n ∷ []) ns (suc axis) leads none (omega (arith, long)) rest (ap length moved ∙ all) (let l = length-append done (n ∷ []) in omega (arith, axis_is, l))) in
+        subst (λ xs. IsMatch (fr ++ xs) at key ns (matched (lifted (length fr) total) (suc axis) is key)) moved
+        (match_is is at key (done ++ n ∷ []) ns (suc axis) leads none (omega (arith, long)) rest (ap length moved ∙ all) (let l = length-append done (n ∷ []) in omega (arith, axis_is, l))) in
         axis_match (fr ++ (done ++ n ∷ ns)) axis (lifted (length fr) total i) x n m at key ns x_is (lifted_there (done ++ n ∷ ns) i all ∙ value) axis_value (matched (lifted (length fr) total) (suc axis) is key) inner first
       where
         axis_value : value_of N s (fr ++ (done ++ n ∷ ns)) (t.Var axis) ≡ v.Node n

@@ -1,12 +1,11 @@
 -- Statements and routines as terms, with what they demand. Statements are taken in turn, each on the terms that
 -- the one before left.
-use Rattle.std.specs.Prelude.{ℕ, suc, Bool, true, false, nat_eq, List, [], ◌∷◌, ◌++◌, reverse, length, Option, None, Some, if◌then◌else◌, slice_get}
+use Rattle.std.specs.Prelude.{ℕ, suc, true, false, nat_eq, List, [], ◌∷◌, ◌++◌, reverse, length, Option, None, Some, if◌then◌else◌, slice_get}
 use Rattle.std.specs.Option.{option_map_or}
 use Rattle.term_core.specs.declared.value.Value.{Value}
 use Rattle.term_core.specs.declared.term.Term as t
 use Rattle.term_core.specs.declared.term.Term.{Term}
 use Rattle.murphi_typed.specs.declared.types.Simple.{Simple}
-use Rattle.murphi_typed.specs.declared.types.AnyType as type
 use Rattle.murphi_typed.specs.declared.types.AnyType.{AnyType}
 use Rattle.murphi_typed.specs.declared.expr.Expr.{Expr}
 use Rattle.murphi_typed.specs.declared.stmt.Stmt as s

@@ -1,7 +1,7 @@
 -- What a part demands so that it does not fault. A demand is made inside out: it is made where the part stands,
 -- and each test under which the part is reached, each `return` that it comes after and each variable over all
 -- nodes that is bound around it is added to it on the way out.
-use Rattle.std.specs.Prelude.{ℕ, suc, Bool, true, false, not, List, [], ◌∷◌, ◌++◌, map, if◌then◌else◌}
+use Rattle.std.specs.Prelude.{ℕ, suc, Bool, false, not, List, [], ◌∷◌, ◌++◌, map, if◌then◌else◌}
 use Rattle.term_core.specs.declared.value.Value.TheVariants as value
 use Rattle.term_core.specs.declared.term.Term as t
 use Rattle.term_core.specs.declared.term.Term.{Term}

@@ -11,8 +11,7 @@ use Rattle.murphi_typed.specs.declared.protocol.Rule.{Rule}
 use Rattle.murphi_typed.specs.declared.protocol.Start.{Start}
 use Rattle.murphi_typed.specs.declared.protocol.TypedFormula.{TypedFormula}
 use Rattle.murphi_typed.specs.declared.protocol.Typed.{Typed}
-use Rattle.murphi_typed.specs.declared.protocol.Guard.{Guard}
-use Rattle.std.specs.Prelude.{Option, None}
+use Rattle.std.specs.Prelude.{None}
 use Rattle.murphi_typed.specs.Steps.{State, Holds}
 use Rattle.murphi_typed.specs.Keeping.{IsState}
 use Rattle.murphi_typed.specs.WellTyped.{is_well_typed, with_kinds, formula_fits}

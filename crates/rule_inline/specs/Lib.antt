@@ -8,3 +8,4 @@ pub mod Worked
 pub mod Presents
 pub mod Laws
 pub mod WorkedMore
+pub mod Loops

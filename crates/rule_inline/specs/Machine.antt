@@ -1,5 +1,5 @@
 -- The machine of a typed protocol, and the pieces of a formula.
-use Rattle.std.specs.Prelude.{ℕ, suc, ◌+◌, Bool, true, false, ◌&&◌, codes, List, [], ◌∷◌, ◌++◌, map, length, Option, None, Some, option_map, if◌then◌else◌, slice_get}
+use Rattle.std.specs.Prelude.{ℕ, suc, ◌+◌, Bool, true, false, ◌&&◌, List, [], ◌∷◌, ◌++◌, map, length, Option, None, Some, if◌then◌else◌, slice_get}
 use Rattle.std.specs.List.{flat_map}
 use Rattle.std.specs.Option.{option_map_or}
 use Rattle.std.specs.Str.{bytes_eq}
@@ -31,7 +31,7 @@ use Rattle.murphi_typed.specs.Families.{Path, Step, Into, Over, path_of, choices
 use Rattle.murphi_typed.specs.Names.{member_text, value_text}
 use Rattle.murphi_typed.specs.Steps.{same_list}
 use Rattle.murphi_typed.specs.Store.{Owner, Global, same_owner}
-use Rattle.rule_inline.specs.Demands.{Demand, truth_term, under_test, piece_of}
+use Rattle.rule_inline.specs.Demands.{truth_term, under_test, piece_of}
 use Rattle.rule_inline.specs.Tables.{Key, holes, Slot, Family, Leaving, Result, Terms, Change, variables, writes}
 use Rattle.rule_inline.specs.Parts.{Site, Valued, Done, Calls, undefined, valued_of}
 use Rattle.rule_inline.specs.Bodies.{done_by, routine_calls}

@@ -1,14 +1,13 @@
 -- When a machine of terms presents a typed protocol: for every number of nodes it has the same starts, guards,
 -- faults and steps. The cells of a protocol and those of a machine stand in different orders; they are related by
 -- variable, field names and indices.
-use Rattle.std.specs.Prelude.{◌≡◌, ℕ, ◌≤◌, Bool, true, false, List, [], ◌∷◌, map, length, Option, None, Some, slice_get, IsTrue}
+use Rattle.std.specs.Prelude.{◌≡◌, ℕ, ◌≤◌, false, List, [], ◌∷◌, Option, None, Some, slice_get, IsTrue}
 use Rattle.std.specs.Option.{option_map_or}
 use Rattle.term_core.specs.declared.value.Value.{Value}
 use Rattle.term_core.specs.declared.value.Value.TheVariants as value
 use Rattle.term_core.specs.declared.machine.CellFamily.{CellFamily}
 use Rattle.term_core.specs.declared.machine.TermRule.{TermRule}
 use Rattle.term_core.specs.declared.machine.TermMachine.{TermMachine}
-use Rattle.term_core.specs.Nodes.{AreNodes}
 use Rattle.term_core.specs.Meaning.{Cells, holds}
 use Rattle.term_core.specs.Cells.{State as MachineState, cell_value, filled, blank_state}
 use Rattle.term_core.specs.Firing.{IsChoice, HasFalsePiece, AllPiecesHold, IsStep, start_state}

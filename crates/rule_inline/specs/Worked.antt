@@ -1,6 +1,6 @@
 -- Worked cases of the translation, each evaluated: protocols of the samples as typed trees, and their terms as
 -- they were worked out by hand.
-use Rattle.std.specs.Prelude.{◌≡◌, codes, ℕ, Bool, true, false, List, [], ◌∷◌, map, pos, Option, None, Some}
+use Rattle.std.specs.Prelude.{◌≡◌, codes, ℕ, Bool, true, false, List, [], ◌∷◌, map, None}
 use Rattle.term_core.specs.declared.value.Value.{Value}
 use Rattle.term_core.specs.declared.value.Value.TheVariants as value
 use Rattle.term_core.specs.declared.value.Sort.TheVariants as sort
@@ -8,8 +8,6 @@ use Rattle.term_core.specs.declared.term.Term as t
 use Rattle.term_core.specs.declared.term.Term.{Term}
 use Rattle.term_core.specs.declared.machine.Piece.{Piece}
 use Rattle.term_core.specs.declared.machine.Update.{Update}
-use Rattle.term_core.specs.declared.machine.CellFamily.{CellFamily}
-use Rattle.term_core.specs.declared.machine.TermMachine.{TermMachine}
 use Rattle.murphi_ast.specs.declared.expr.ChainOp.TheVariants as op
 use Rattle.murphi_ast.specs.declared.expr.CompareOp.TheVariants as compare
 use Rattle.murphi_typed.specs.declared.types.Simple.{Simple}
@@ -35,11 +33,11 @@ use Rattle.murphi_typed.specs.declared.protocol.Start.{Start}
 use Rattle.murphi_typed.specs.declared.protocol.TypedFormula.{TypedFormula}
 use Rattle.murphi_typed.specs.declared.protocol.Typed.{Typed}
 use Rattle.murphi_typed.specs.Forms.{NotForm, CompareForm, ImpliesForm}
-use Rattle.murphi_typed.specs.Worked.{here, there, the, number, global, item, chain, assign, copy, one, two}
+use Rattle.murphi_typed.specs.Worked.{here, there, the, global, item, chain, assign, one, two}
 use Rattle.murphi_typed.specs.WorkedBodies.{if_one, to_item, for_each, with_two, standing, formal}
 use Rattle.murphi_typed.specs.WorkedSteps.{variable, boolean, per_node, protocol, start, rule, guard, node_parameter, undef, undef_copy, undef_read, undef_start, alias, alias_link, alias_start}
 use Rattle.rule_inline.specs.Tables.{Key}
-use Rattle.rule_inline.specs.Machine.{rule_at, start_at, formula_pieces, instances, trans}
+use Rattle.rule_inline.specs.Machine.{rule_at, start_at, formula_pieces, trans}
 
 -- terms
 

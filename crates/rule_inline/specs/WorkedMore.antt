@@ -1,14 +1,12 @@
 -- More worked cases of the translation, each evaluated: indices of finite types, functions, `switch`, records and
 -- loops over finite types. The globals are `r : 0..1; x : array [0..1] of 0..3; w, v : record f : boolean;
 -- g : 0..3; end; q : -2..5`, so the families are r, x[0], x[1], w.f, w.g, v.f, v.g, q.
-use Rattle.std.specs.Prelude.{◌≡◌, codes, ℕ, true, false, List, [], ◌∷◌, map, pos, negsuc, Option, None, Some}
+use Rattle.std.specs.Prelude.{◌≡◌, codes, ℕ, List, [], ◌∷◌, map, pos, negsuc, None, Some}
 use Rattle.term_core.specs.declared.value.Value.TheVariants as value
 use Rattle.term_core.specs.declared.value.ArithOp.TheVariants as arith
 use Rattle.term_core.specs.declared.term.Term as t
 use Rattle.term_core.specs.declared.term.Term.{Term}
 use Rattle.murphi_ast.specs.declared.expr.ChainOp.TheVariants as op
-use Rattle.murphi_ast.specs.declared.expr.CompareOp.TheVariants as compare
-use Rattle.murphi_typed.specs.declared.types.Simple.{Simple}
 use Rattle.murphi_typed.specs.declared.types.Simple.TheVariants as simple
 use Rattle.murphi_typed.specs.declared.types.AnyType as type
 use Rattle.murphi_typed.specs.declared.expr.Expr as x
@@ -19,8 +17,8 @@ use Rattle.murphi_typed.specs.declared.stmt.Stmt.{Stmt}
 use Rattle.murphi_typed.specs.declared.protocol.Routine.{Routine}
 use Rattle.murphi_typed.specs.declared.protocol.Rule.{Rule}
 use Rattle.murphi_typed.specs.declared.protocol.Typed.{Typed}
-use Rattle.murphi_typed.specs.Forms.{ArrayForm, CompareForm, QuantifiedForm}
-use Rattle.murphi_typed.specs.Worked.{there, the, number, global, item, chain, assign, copy, one, pair_type, r_type, x_index}
+use Rattle.murphi_typed.specs.Forms.{ArrayForm}
+use Rattle.murphi_typed.specs.Worked.{there, the, number, global, item, chain, assign, one, pair_type, r_type, x_index}
 use Rattle.murphi_typed.specs.WorkedBodies.{to_item, for_each, switch_two, routine, by_value, with_one, formal, result}
 use Rattle.murphi_typed.specs.WorkedSteps.{variable, protocol, rule}
 use Rattle.rule_inline.specs.Tables.{Key}
