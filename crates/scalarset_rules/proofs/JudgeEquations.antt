@@ -171,16 +171,16 @@ drop_item (x ∷ xs) (suc i) a low e =
     subst (λ k. drop i xs ≡ a ∷ drop k (x ∷ xs)) h (drop_item xs i a (omega (arith, low)) e)
 
 pub pair_step : (v : Binder) (k : ℕ) (w : Access) (all : List HeldAccess) (i : ℕ) (a : HeldAccess) (first one now : Option Break)
-  → i < length all → a ≡ slice_index_or all i a → now ≡ sooner first one → one ≡ if_near v (seen_access a) (first_break (pair_breaks v k w (seen_access a)))
-  → sooner first (first_pair v k w (drop i all)) ≡ first_pair v k w all → sooner now (first_pair v k w (drop (i + 1) all)) ≡ first_pair v k w all
+    → i < length all → a ≡ slice_index_or all i a → now ≡ sooner first one → one ≡ if_near v (seen_access a) (first_break (pair_breaks v k w (seen_access a)))
+    → sooner first (first_pair v k w (drop i all)) ≡ first_pair v k w all → sooner now (first_pair v k w (drop (i + 1) all)) ≡ first_pair v k w all
 pair_step v k w all i a first one now low item step is before =
     ap (λ x. sooner x (first_pair v k w (drop (i + 1) all))) (step ∙ ap (sooner first) is)
     ∙ sooner_on first (if_near v (seen_access a) (first_break (pair_breaks v k w (seen_access a)))) (first_pair v k w (drop (i + 1) all))
     ∙ sym (ap (λ xs. sooner first (first_pair v k w xs)) (drop_item all i a low item)) ∙ before
 
 pub write_step : (v : Binder) (all : List HeldAccess) (i : ℕ) (a : HeldAccess) (first one now : Option Break)
-  → i < length all → a ≡ slice_index_or all i a → now ≡ sooner first one → one ≡ if_near v (seen_access a) (first_of_write v all (seen_access a))
-  → sooner first (first_of_writes v all (drop i all)) ≡ first_of_writes v all all → sooner now (first_of_writes v all (drop (i + 1) all)) ≡ first_of_writes v all all
+    → i < length all → a ≡ slice_index_or all i a → now ≡ sooner first one → one ≡ if_near v (seen_access a) (first_of_write v all (seen_access a))
+    → sooner first (first_of_writes v all (drop i all)) ≡ first_of_writes v all all → sooner now (first_of_writes v all (drop (i + 1) all)) ≡ first_of_writes v all all
 write_step v all i a first one now low item step is before =
     ap (λ x. sooner x (first_of_writes v all (drop (i + 1) all))) (step ∙ ap (sooner first) is)
     ∙ sooner_on first (if_near v (seen_access a) (first_of_write v all (seen_access a))) (first_of_writes v all (drop (i + 1) all))

@@ -36,13 +36,7 @@ pub(crate) fn first_of(a: Option<Break>, b: Option<Break>) -> Option<Break>
         None => b,
         Some(x) => match b {
             None => a,
-            Some(y) => {
-                if is_earlier(y, x) {
-                    b
-                } else {
-                    a
-                }
-            }
+            Some(y) => { if is_earlier(y, x) { b } else { a } }
         },
     }
 }
@@ -92,11 +86,7 @@ fn lacks(v: Binder, place: usize, w: &Access, a: &Access) -> bool
 fn rule_of(a: &Access) -> u8
     ensures { result ≡ rule_of (seen_access a.now) }
 {
-    if a.write {
-        6
-    } else {
-        7
-    }
+    if a.write { 6 } else { 7 }
 }
 
 fn pair(v: Binder, place: usize, w: &Access, a: &Access) -> Option<Break>

@@ -65,12 +65,7 @@ fn labels(
 
 /// What a statement reads, writes and calls.
 #[cycle(touches)]
-fn touches(
-    alloc: Global,
-    level: Level,
-    stands: &[Stand],
-    s: &Stmt,
-) -> Result<Items<Piece>, Memory>
+fn touches(alloc: Global, level: Level, stands: &[Stand], s: &Stmt) -> Result<Items<Piece>, Memory>
     ensures { IfOk result (λ v. map seen_piece v ≡ pieces (scope_at level.depth level.bound stands.now) s.now) }
 {
     match s {
@@ -94,7 +89,9 @@ fn touches(
             Ok(out)
         }
         Stmt::If {
-            arms, otherwise, ..
+            arms,
+            otherwise,
+            ..
         } => {
             let first = touches_arms(alloc, level, stands, arms.as_slice())?;
             let second = touches_all(alloc, level, stands, otherwise.as_slice())?;
