@@ -3,8 +3,8 @@ use Rattle.std.proofs.Common.{◌≡◌, ℕ, zero, suc, ◌+◌, ◌<◌, lengt
 use Rattle.std.specs.Prelude.{nat_eq, nat_lt, if◌then◌else◌, cond, slice_index_or}
 use Rattle.std.specs.List.{flat_map, filter}
 use Rattle.scalarset_rules.specs.declared.shape.Access.{Access as HeldAccess}
-use Rattle.scalarset_rules.specs.Accesses.{Binder, Access, Loop}
-use Rattle.scalarset_rules.specs.Rules.{Break, is_before, sooner, first_break, blame, lacks, rule_of, write_breaks, is_deeper, judged, breaks_of_write, place_of_write, loop_breaks}
+use Rattle.scalarset_rules.specs.Accesses.{Binder, Access}
+use Rattle.scalarset_rules.specs.Rules.{Break, is_before, sooner, first_break, write_breaks, is_deeper, breaks_of_write, place_of_write, loop_breaks}
 use Rattle.scalarset_rules.specs.Seen.{seen_access, pair_breaks, if_near, first_pair, first_placed, first_of_write, first_of_writes, loop_seen}
 
 -- The order of places and rules
@@ -171,16 +171,16 @@ drop_item (x ∷ xs) (suc i) a low e =
     subst (λ k. drop i xs ≡ a ∷ drop k (x ∷ xs)) h (drop_item xs i a (omega (arith, low)) e)
 
 pub pair_step : (v : Binder) (k : ℕ) (w : Access) (all : List HeldAccess) (i : ℕ) (a : HeldAccess) (first one now : Option Break)
-  → i < length all → a ≡ slice_index_or all i a → now ≡ sooner first one → one ≡ if_near v (seen_access a) (first_break (pair_breaks v k w (seen_access a)))
-  → sooner first (first_pair v k w (drop i all)) ≡ first_pair v k w all → sooner now (first_pair v k w (drop (i + 1) all)) ≡ first_pair v k w all
+    → i < length all → a ≡ slice_index_or all i a → now ≡ sooner first one → one ≡ if_near v (seen_access a) (first_break (pair_breaks v k w (seen_access a)))
+    → sooner first (first_pair v k w (drop i all)) ≡ first_pair v k w all → sooner now (first_pair v k w (drop (i + 1) all)) ≡ first_pair v k w all
 pair_step v k w all i a first one now low item step is before =
     ap (λ x. sooner x (first_pair v k w (drop (i + 1) all))) (step ∙ ap (sooner first) is)
     ∙ sooner_on first (if_near v (seen_access a) (first_break (pair_breaks v k w (seen_access a)))) (first_pair v k w (drop (i + 1) all))
     ∙ sym (ap (λ xs. sooner first (first_pair v k w xs)) (drop_item all i a low item)) ∙ before
 
 pub write_step : (v : Binder) (all : List HeldAccess) (i : ℕ) (a : HeldAccess) (first one now : Option Break)
-  → i < length all → a ≡ slice_index_or all i a → now ≡ sooner first one → one ≡ if_near v (seen_access a) (first_of_write v all (seen_access a))
-  → sooner first (first_of_writes v all (drop i all)) ≡ first_of_writes v all all → sooner now (first_of_writes v all (drop (i + 1) all)) ≡ first_of_writes v all all
+    → i < length all → a ≡ slice_index_or all i a → now ≡ sooner first one → one ≡ if_near v (seen_access a) (first_of_write v all (seen_access a))
+    → sooner first (first_of_writes v all (drop i all)) ≡ first_of_writes v all all → sooner now (first_of_writes v all (drop (i + 1) all)) ≡ first_of_writes v all all
 write_step v all i a first one now low item step is before =
     ap (λ x. sooner x (first_of_writes v all (drop (i + 1) all))) (step ∙ ap (sooner first) is)
     ∙ sooner_on first (if_near v (seen_access a) (first_of_write v all (seen_access a))) (first_of_writes v all (drop (i + 1) all))

@@ -36,18 +36,12 @@ pub(crate) fn first_of(a: Option<Break>, b: Option<Break>) -> Option<Break>
         None => b,
         Some(x) => match b {
             None => a,
-            Some(y) => {
-                if is_earlier(y, x) {
-                    b
-                } else {
-                    a
-                }
-            }
+            Some(y) => { if is_earlier(y, x) { b } else { a } }
         },
     }
 }
 
-fn one(rule: u8, at: Span) -> Option<Break>
+pub(crate) fn one(rule: u8, at: Span) -> Option<Break>
     ensures { result ≡ first_break (breaks_at rule (at ∷ [])) }
 {
     Some(Break { rule, at })
@@ -92,11 +86,7 @@ fn lacks(v: Binder, place: usize, w: &Access, a: &Access) -> bool
 fn rule_of(a: &Access) -> u8
     ensures { result ≡ rule_of (seen_access a.now) }
 {
-    if a.write {
-        6
-    } else {
-        7
-    }
+    if a.write { 6 } else { 7 }
 }
 
 fn pair(v: Binder, place: usize, w: &Access, a: &Access) -> Option<Break>

@@ -33,10 +33,7 @@ pub(crate) enum LoopPiece {
     },
 }
 
-fn with_more(
-    first: Items<LoopPiece>,
-    second: Items<LoopPiece>,
-) -> Result<Items<LoopPiece>, Memory>
+fn with_more(first: Items<LoopPiece>, second: Items<LoopPiece>) -> Result<Items<LoopPiece>, Memory>
     ensures { IfOk result (λ v. map seen_loop v ≡ map seen_loop first ++ map seen_loop second) }
 {
     let mut out = first;
@@ -110,7 +107,9 @@ pub(crate) fn loops_of(
             Ok(out)
         }
         Stmt::If {
-            arms, otherwise, ..
+            arms,
+            otherwise,
+            ..
         } => {
             let first = loops_of_arms(alloc, level, stands, arms.as_slice())?;
             let second = loops_of_all(alloc, level, stands, otherwise.as_slice())?;
@@ -118,7 +117,9 @@ pub(crate) fn loops_of(
             Ok(out)
         }
         Stmt::Switch {
-            cases, otherwise, ..
+            cases,
+            otherwise,
+            ..
         } => {
             let first = loops_of_cases(alloc, level, stands, cases.as_slice())?;
             let second = loops_of_all(alloc, level, stands, otherwise.as_slice())?;

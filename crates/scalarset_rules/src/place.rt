@@ -143,7 +143,7 @@ fn copy_parts(alloc: Global, all: &[Part]) -> Result<Items<Part>, Memory>
     Ok(out)
 }
 
-fn copy_shape(alloc: Global, shape: &Shape) -> Result<Shape, Memory>
+pub(crate) fn copy_shape(alloc: Global, shape: &Shape) -> Result<Shape, Memory>
     ensures { IfOk result (λ s. s ≡ shape.now) }
 {
     let parts = copy_parts(alloc, shape.parts.as_slice())?;
@@ -163,12 +163,7 @@ fn whole(alloc: Global, owner: Variable) -> Shape
     }
 }
 
-fn shape_of_root(
-    alloc: Global,
-    level: Level,
-    stands: &[Stand],
-    root: Root,
-) -> Result<Shape, Memory>
+fn shape_of_root(alloc: Global, level: Level, stands: &[Stand], root: Root) -> Result<Shape, Memory>
     ensures { IfOk result (λ s. seen_shape s ≡ root_shape (scope_at level.depth level.bound stands.now) root) }
 {
     match root {
@@ -242,12 +237,7 @@ fn add_parts(
 }
 
 /// The shape of a designator.
-fn shape(
-    alloc: Global,
-    level: Level,
-    stands: &[Stand],
-    place: &Designator,
-) -> Result<Shape, Memory>
+fn shape(alloc: Global, level: Level, stands: &[Stand], place: &Designator) -> Result<Shape, Memory>
     ensures { IfOk result (λ s. seen_shape s ≡ shape_of (scope_at level.depth level.bound stands.now) place.now) }
 {
     let front = shape_of_root(alloc, level, stands, root_of(place))?;
@@ -258,7 +248,7 @@ fn shape(
     })
 }
 
-fn first_token(place: &Designator) -> Span
+pub(crate) fn first_token(place: &Designator) -> Span
     ensures { result ≡ at_of place.now }
 {
     match place {
@@ -286,12 +276,7 @@ pub(crate) fn access(
     })
 }
 
-fn stand_of(
-    alloc: Global,
-    level: Level,
-    stands: &[Stand],
-    arg: &Argument,
-) -> Result<Stand, Memory>
+fn stand_of(alloc: Global, level: Level, stands: &[Stand], arg: &Argument) -> Result<Stand, Memory>
     ensures { IfOk result (λ s. seen_stand s ≡ argument_stand (scope_at level.depth level.bound stands.now) arg.now) }
 {
     match arg {

@@ -115,11 +115,17 @@ fn is_same_variable(a: Variable, b: Variable) -> bool
             _ => false,
         },
         Variable::Local { depth, number } => match b {
-            Variable::Local { depth: d, number: n } => depth == d && number == n,
+            Variable::Local {
+                depth: d,
+                number: n,
+            } => depth == d && number == n,
             _ => false,
         },
         Variable::Formal { depth, number } => match b {
-            Variable::Formal { depth: d, number: n } => depth == d && number == n,
+            Variable::Formal {
+                depth: d,
+                number: n,
+            } => depth == d && number == n,
             _ => false,
         },
     }

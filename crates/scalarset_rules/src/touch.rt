@@ -65,7 +65,7 @@ fn labels(
 
 /// What a statement reads, writes and calls.
 #[cycle(touches)]
-fn touches(
+pub(crate) fn touches(
     alloc: Global,
     level: Level,
     stands: &[Stand],
@@ -94,7 +94,9 @@ fn touches(
             Ok(out)
         }
         Stmt::If {
-            arms, otherwise, ..
+            arms,
+            otherwise,
+            ..
         } => {
             let first = touches_arms(alloc, level, stands, arms.as_slice())?;
             let second = touches_all(alloc, level, stands, otherwise.as_slice())?;
