@@ -3,8 +3,8 @@ use Rattle.std.proofs.Common.{◌≡◌, ℕ, zero, suc, ◌+◌, ◌<◌, lengt
 use Rattle.std.specs.Prelude.{nat_eq, nat_lt, if◌then◌else◌, cond, slice_index_or}
 use Rattle.std.specs.List.{flat_map, filter}
 use Rattle.scalarset_rules.specs.declared.shape.Access.{Access as HeldAccess}
-use Rattle.scalarset_rules.specs.Accesses.{Binder, Access, Loop}
-use Rattle.scalarset_rules.specs.Rules.{Break, is_before, sooner, first_break, blame, lacks, rule_of, write_breaks, is_deeper, judged, breaks_of_write, place_of_write, loop_breaks}
+use Rattle.scalarset_rules.specs.Accesses.{Binder, Access}
+use Rattle.scalarset_rules.specs.Rules.{Break, is_before, sooner, first_break, write_breaks, is_deeper, breaks_of_write, place_of_write, loop_breaks}
 use Rattle.scalarset_rules.specs.Seen.{seen_access, pair_breaks, if_near, first_pair, first_placed, first_of_write, first_of_writes, loop_seen}
 
 -- The order of places and rules

@@ -19,3 +19,7 @@ pub mod PieceEquations
 pub mod TouchEquations
 pub mod LoopEquations
 pub mod Opening
+pub mod OpenEquations
+pub mod WithinEquations
+pub mod ScanEquations
+pub mod DisciplineEquations

@@ -1,6 +1,5 @@
 -- The loops over nodes of each form of statement, in terms of the parts that code reads.
-use Rattle.std.proofs.Common.{◌≡◌, ℕ, Bool, true, false, List, [], ◌∷◌, ◌++◌, map, refl, sym, ap, ◌∙◌, append_assoc, append-nil}
-use Rattle.std.specs.Prelude.{if◌then◌else◌}
+use Rattle.std.proofs.Common.{◌≡◌, ℕ, List, [], ◌∷◌, ◌++◌, refl, sym, ap, ◌∙◌}
 use denote.Hole.Carrier.{hidden}
 use Rattle.murphi_ast.specs.declared.token.Span.{Span}
 use Rattle.murphi_typed.specs.declared.types.Simple.{Simple}
@@ -14,7 +13,7 @@ use Rattle.murphi_typed.specs.declared.stmt.Stmt as s
 use Rattle.murphi_typed.specs.declared.stmt.Stmt.{Stmt, Row_of-Stmt, end_of-Stmt, more_of-Stmt, Row_of-Arm, end_of-Arm, more_of-Arm, Row_of-Case, end_of-Case, more_of-Case, items-the_row-Stmt, items-the_row-Arm, items-the_row-Case, items_hidden-the_row-Stmt-0, items_hidden-the_row-Arm-1, items_hidden-the_row-Case-2, items_shown-the_row-Stmt-0, the_lemmas}
 use Rattle.murphi_typed.specs.declared.stmt.Stmt.TheBlock.{shown-the_row-Stmt-0, hidden-the_row-Stmt-0, hidden-the_row-Arm-1, hidden-the_row-Case-2}
 use Rattle.scalarset_rules.specs.Accesses.{Scope, binding, next_binder, stands_of}
-use Rattle.scalarset_rules.specs.Pieces.{LoopPiece, Around, Within, if_around, all_pieces, list_pieces, loop_pieces, all_loop_pieces, arm_loop_pieces, case_loop_pieces, list_loops, list_arm_loops, list_case_loops}
+use Rattle.scalarset_rules.specs.Pieces.{Around, Within, if_around, list_pieces, loop_pieces, all_loop_pieces, arm_loop_pieces, case_loop_pieces, list_loops, list_arm_loops, list_case_loops}
 use Rattle.scalarset_rules.proofs.PlaceEquations.{mapped_joined}
 use Rattle.scalarset_rules.proofs.PieceEquations.{nothing_after, after_after}
 use Rattle.scalarset_rules.proofs.TouchEquations.{shown_pieces}

@@ -1,9 +1,6 @@
 -- What an opened body reads and writes is what its pieces do, each call opened.
-use Rattle.std.proofs.Common.{◌≡◌, ℕ, zero, suc, ◌<◌, ◌≤◌, Bool, true, false, List, [], ◌∷◌, ◌++◌, map, take, length, reverse, Option, None, Some, refl, sym, ap, ◌∙◌, subst, arith, append_assoc, append-nil}
-use Rattle.std.specs.Prelude.{nat_eq, slice_get, if◌then◌else◌}
+use Rattle.std.proofs.Common.{◌≡◌, ℕ, Bool, true, false, List, [], ◌∷◌, ◌++◌, refl, sym, ap, ◌∙◌, append_assoc, append-nil}
 use Rattle.std.specs.List.{flat_map}
-use Rattle.std.proofs.lemmas.Bool.{eqb-true, eqb-false}
-use Rattle.std.proofs.lemmas.List.{reverse-reverse, length-reverse}
 use Rattle.murphi_ast.specs.declared.token.Span.{Span}
 use Rattle.murphi_typed.specs.declared.expr.Expr as x
 use Rattle.murphi_typed.specs.declared.expr.Expr.{Expr, end_of-Expr, more_of-Expr, Row_of-Link, end_of-Link, more_of-Link}
@@ -15,12 +12,10 @@ use Rattle.murphi_typed.specs.declared.expr.Arguments.{Arguments, Row_of-Argumen
 use Rattle.murphi_typed.specs.declared.expr.Argument as argument
 use Rattle.murphi_typed.specs.declared.stmt.Stmt as s
 use Rattle.murphi_typed.specs.declared.stmt.Stmt.{Stmt, Row_of-Stmt, end_of-Stmt, more_of-Stmt, Row_of-Arm, end_of-Arm, more_of-Arm, Row_of-Case, end_of-Case, more_of-Case}
-use Rattle.murphi_typed.specs.declared.protocol.Routine.{Routine}
 use Rattle.murphi_typed.specs.Forms.{NotForm, MinusForm, CompareForm, ImpliesForm, ChoiceForm, QuantifiedForm}
-use Rattle.scalarset_rules.specs.Accesses.{Scope, binding, called, stands_of, Access, accessed, from_call, Opened, reads, chain_reads, index_reads, row_reads, argument_reads, row_argument_reads, one_argument_reads, accesses, all_accesses, arm_accesses, case_accesses, opened_in}
-use Rattle.scalarset_rules.specs.Pieces.{Piece, Touch, Enter, opened_piece, opened_pieces, read_pieces, chain_pieces, index_pieces, row_pieces, argument_pieces, row_argument_pieces, one_argument_pieces, touch_place, pieces, all_pieces, arm_pieces, case_pieces}
-use Rattle.scalarset_rules.proofs.Sameness.{both, some_same}
-use Rattle.scalarset_rules.proofs.Texts.{get_last, get_before, reversed}
+use Rattle.scalarset_rules.specs.Accesses.{Scope, binding, called, stands_of, Access, accessed, from_call, Opened, reads, chain_reads, index_reads, row_reads, argument_reads, row_argument_reads, one_argument_reads, accesses, all_accesses, arm_accesses, case_accesses}
+use Rattle.scalarset_rules.specs.Pieces.{Piece, Enter, opened_piece, opened_pieces, read_pieces, chain_pieces, index_pieces, row_pieces, argument_pieces, row_argument_pieces, one_argument_pieces, touch_place, pieces, all_pieces, arm_pieces, case_pieces}
+use Rattle.scalarset_rules.proofs.Sameness.{both}
 
 pub opened_joined : (opened : Opened) (depth : ℕ) (xs ys : List Piece) → opened_pieces opened depth (xs ++ ys) ≡ opened_pieces opened depth xs ++ opened_pieces opened depth ys
 opened_joined opened depth [] ys = refl

@@ -1,5 +1,5 @@
 -- What each form of expression reads and calls, in terms of the parts that code reads.
-use Rattle.std.proofs.Common.{◌≡◌, ℕ, Bool, true, false, List, [], ◌∷◌, ◌++◌, map, refl, sym, ap, ◌∙◌, append_assoc, append-nil}
+use Rattle.std.proofs.Common.{◌≡◌, ℕ, Bool, false, List, [], ◌∷◌, ◌++◌, refl, ap, ◌∙◌, append_assoc, append-nil}
 use denote.Hole.Carrier.{hidden}
 use Rattle.term_core.specs.declared.value.Value.{Value}
 use Rattle.murphi_ast.specs.declared.token.Span.{Span}
@@ -16,7 +16,7 @@ use Rattle.murphi_typed.specs.declared.expr.Expr as x
 use Rattle.murphi_typed.specs.declared.expr.Expr.{Expr, Row_of-Link, end_of-Link, more_of-Link, items-the_row-Link, items_hidden-the_row-Link-3, the_lemmas}
 use Rattle.murphi_typed.specs.declared.expr.Argument.TheBlock.{shape-the_row-Expr-2, hidden-the_row-Expr-2, hidden-the_row-Link-3}
 use Rattle.scalarset_rules.specs.Accesses.{Scope, binding, accessed, stands_of}
-use Rattle.scalarset_rules.specs.Pieces.{Piece, Touch, Enter, read_pieces, chain_pieces, index_pieces, row_pieces, argument_pieces, row_argument_pieces, one_argument_pieces, read_place, list_chain, list_indices, list_arguments, selectors_of, arguments_in}
+use Rattle.scalarset_rules.specs.Pieces.{Touch, Enter, read_pieces, chain_pieces, index_pieces, row_pieces, argument_pieces, row_argument_pieces, one_argument_pieces, list_chain, list_indices, list_arguments, selectors_of, arguments_in}
 use Rattle.scalarset_rules.proofs.PlaceEquations.{mapped_joined}
 
 pub nothing_after : {A : Type 0} (xs : List A) → xs ++ [] ≡ xs

@@ -1,11 +1,8 @@
 -- Designators, indices and arguments, in terms of the parts that code reads.
-use Rattle.std.proofs.Common.{◌≡◌, ℕ, zero, suc, ◌+◌, ◌<◌, length, drop, Bool, true, false, List, [], ◌∷◌, ◌++◌, map, Option, None, Some, refl, sym, ap, ◌∙◌, subst, arith, append_assoc, append-nil}
-use Rattle.std.specs.Prelude.{slice_get, slice_index_or, option_map}
-use Rattle.murphi_ast.specs.declared.token.Span.{Span}
+use Rattle.std.proofs.Common.{◌≡◌, ℕ, zero, suc, Bool, List, [], ◌∷◌, ◌++◌, map, Option, None, refl, ap}
+use Rattle.std.specs.Prelude.{slice_get, option_map}
 use denote.Hole.Carrier.{hidden}
 use Rattle.murphi_typed.specs.declared.types.Simple.{Simple}
-use Rattle.murphi_typed.specs.declared.expr.Root.{Root}
-use Rattle.murphi_typed.specs.declared.expr.Root.TheVariants as root
 use Rattle.murphi_ast.specs.declared.expr.CompareOp.{CompareOp}
 use Rattle.murphi_typed.specs.declared.expr.Link.{Link}
 use Rattle.murphi_typed.specs.declared.expr.Expr as x
@@ -17,11 +14,8 @@ use Rattle.murphi_typed.specs.declared.expr.Designator.{Designator, Row_of-Selec
 use Rattle.murphi_typed.specs.declared.expr.Selector as select
 use Rattle.murphi_typed.specs.declared.expr.Arguments as a
 use Rattle.murphi_typed.specs.declared.expr.Arguments.{Arguments, Row_of-Argument, end_of-Argument, more_of-Argument, items-the_row-Argument}
-use Rattle.murphi_typed.specs.declared.expr.Argument as argument
-use Rattle.murphi_typed.specs.declared.expr.Argument.TheBlock.{hidden-the_row-Link-3, hidden-the_row-Expr-2, shape-the_row-Expr-2}
-use Rattle.scalarset_rules.specs.declared.shape.Stand.{Stand as HeldStand}
-use Rattle.scalarset_rules.specs.Accesses.{Binder, accessed, Part, Field, Index, Shape, Stand, Scope, mark, root_mark, unselected, place_mark, root_shape, row_parts, under, shape_of, argument_stand, row_stands, stands_of}
-use Rattle.scalarset_rules.specs.Seen.{seen_stand}
+use Rattle.murphi_typed.specs.declared.expr.Argument.TheBlock.{hidden-the_row-Expr-2, shape-the_row-Expr-2}
+use Rattle.scalarset_rules.specs.Accesses.{Binder, accessed, Field, Index, Scope, mark, root_mark, unselected, place_mark, root_shape, row_parts, under, shape_of, argument_stand, row_stands, stands_of}
 use Rattle.scalarset_rules.specs.Pieces.{selectors_of, arguments_in, list_parts, list_stands, lone}
 
 pub got_mapped : {A B : Type 0} (f : A → B) (xs : List A) (k : ℕ) → slice_get (map f xs) k ≡ option_map f (slice_get xs k)

@@ -1,8 +1,8 @@
 -- What loops over parts work out.
-use Rattle.std.proofs.Common.{◌≡◌, ℕ, zero, suc, ◌+◌, ◌-◌, ◌<◌, ◌≤◌, Bool, true, false, ◌&&◌, List, [], ◌∷◌, length, drop, Option, None, Some, refl, sym, ap, ◌∙◌, subst, arith}
-use Rattle.std.specs.Prelude.{slice_get, slice_index}
+use Rattle.std.proofs.Common.{◌≡◌, ℕ, zero, suc, ◌+◌, ◌-◌, ◌<◌, ◌≤◌, true, false, ◌&&◌, List, [], ◌∷◌, length, drop, Option, None, Some, refl, ap, ◌∙◌, subst, arith}
+use Rattle.std.specs.Prelude.{slice_get}
 use Rattle.scalarset_rules.specs.Accesses.{Binder, Part}
-use Rattle.scalarset_rules.specs.Rules.{same_part, is_prefix, is_it, has_at, first_at, one_later}
+use Rattle.scalarset_rules.specs.Rules.{same_part, is_prefix, is_it, has_at, one_later}
 
 -- a place counted from a later one
 abbrev pub later : ℕ → Option ℕ → Option ℕ

@@ -1,5 +1,5 @@
 -- What each form of statement reads, writes and calls, in terms of the parts that code reads.
-use Rattle.std.proofs.Common.{◌≡◌, ℕ, Bool, true, false, List, [], ◌∷◌, ◌++◌, map, refl, sym, ap, ◌∙◌, append_assoc, append-nil}
+use Rattle.std.proofs.Common.{◌≡◌, ℕ, Bool, true, false, List, [], ◌∷◌, ◌++◌, refl, sym, ap, ◌∙◌}
 use Rattle.std.specs.List.{flat_map}
 use denote.Hole.Carrier.{hidden}
 use Rattle.murphi_ast.specs.declared.token.Span.{Span}
@@ -14,7 +14,7 @@ use Rattle.murphi_typed.specs.declared.stmt.Stmt as s
 use Rattle.murphi_typed.specs.declared.stmt.Stmt.{Stmt, Row_of-Stmt, end_of-Stmt, more_of-Stmt, Row_of-Arm, end_of-Arm, more_of-Arm, Row_of-Case, end_of-Case, more_of-Case, items-the_row-Stmt, items-the_row-Arm, items-the_row-Case, items_hidden-the_row-Stmt-0, items_hidden-the_row-Arm-1, items_hidden-the_row-Case-2, items_shown-the_row-Stmt-0, the_lemmas}
 use Rattle.murphi_typed.specs.declared.stmt.Stmt.TheBlock.{shown-the_row-Stmt-0, hidden-the_row-Stmt-0, hidden-the_row-Arm-1, hidden-the_row-Case-2}
 use Rattle.scalarset_rules.specs.Accesses.{Scope, binding, stands_of, accessed}
-use Rattle.scalarset_rules.specs.Pieces.{Piece, Touch, Enter, read_pieces, argument_pieces, index_pieces, touch_place, pieces, all_pieces, arm_pieces, case_pieces, list_pieces, list_arms, list_cases}
+use Rattle.scalarset_rules.specs.Pieces.{Touch, Enter, read_pieces, argument_pieces, index_pieces, touch_place, pieces, all_pieces, arm_pieces, case_pieces, list_pieces, list_arms, list_cases}
 use Rattle.scalarset_rules.proofs.PlaceEquations.{mapped_joined}
 use Rattle.scalarset_rules.proofs.PieceEquations.{nothing_after, after_after}
 

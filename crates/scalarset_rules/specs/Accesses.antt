@@ -18,7 +18,6 @@ use Rattle.murphi_typed.specs.declared.stmt.Stmt as s
 use Rattle.murphi_typed.specs.declared.stmt.Stmt.{Stmt, Row_of-Stmt, end_of-Stmt, more_of-Stmt, Row_of-Arm, end_of-Arm, more_of-Arm, Row_of-Case, end_of-Case, more_of-Case}
 use Rattle.murphi_typed.specs.declared.protocol.Routine.{Routine}
 use Rattle.murphi_typed.specs.Forms.{NotForm, MinusForm, CompareForm, ImpliesForm, ChoiceForm, QuantifiedForm}
-use Rattle.murphi_typed.specs.Families.{Name}
 use Rattle.murphi_typed.specs.Store.{Owner, Global, Local, Formal}
 use Rattle.murphi_typed.specs.Prefix.{is_over_nodes}
 -- a bound variable of an opened body: that of the body at this depth in calls, by its number there

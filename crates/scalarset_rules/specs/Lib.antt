@@ -5,4 +5,6 @@ pub mod Turns
 pub mod Apart
 pub mod Pieces
 pub mod Seen
+pub mod Scanning
+pub mod Verdicts
 pub mod Worked

@@ -1,5 +1,6 @@
 -- What contracts see of the values that the code works with: the same, in the words of the rules.
-use Rattle.std.specs.Prelude.{ℕ, Bool, List, [], ◌∷◌, map, Option, None, Some, if◌then◌else◌}
+use Rattle.std.specs.Prelude.{ℕ, List, [], ◌∷◌, map, Option, None, Some, if◌then◌else◌}
+use Rattle.murphi_ast.specs.declared.token.Span.{Span}
 use Rattle.murphi_typed.specs.Store.{Owner, Global, Local, Formal}
 use Rattle.scalarset_rules.specs.declared.shape.Variable.{Variable}
 use Rattle.scalarset_rules.specs.declared.shape.Variable.TheVariants as variable
@@ -12,7 +13,7 @@ use Rattle.scalarset_rules.specs.declared.piece.Piece.TheVariants as piece
 use Rattle.scalarset_rules.specs.declared.nested.LoopPiece.{LoopPiece as HeldLoop}
 use Rattle.scalarset_rules.specs.declared.nested.LoopPiece.TheVariants as loop
 use Rattle.scalarset_rules.specs.Pieces.{Piece, Touch, Enter, LoopPiece, Around, Within}
-use Rattle.scalarset_rules.specs.Accesses.{Binder, Shape, Stand, Valued, Placed, Scope, Access, Loop}
+use Rattle.scalarset_rules.specs.Accesses.{Binder, Shape, Stand, Valued, Placed, Scope, Access, blamed, Loop, loop_from}
 use Rattle.scalarset_rules.specs.Rules.{Break, is_deeper, lacks, blame, rule_of, place_of_write, sooner, first_break}
 
 abbrev pub seen_owner : Variable → Owner
@@ -71,3 +72,23 @@ seen_piece (piece.Enter k stands at) = Enter k (map seen_stand stands) at
 abbrev pub seen_loop : HeldLoop → LoopPiece
 seen_loop (loop.Around v pieces) = Around v (map seen_piece pieces)
 seen_loop (loop.Within k stands at) = Within k (map seen_stand stands) at
+
+-- the call that is open already, or this one
+abbrev pub or_call : Option Span → Span → Span
+or_call None call = call
+or_call (Some first) call = first
+
+-- from the opening of a call, if there is one
+abbrev pub by_access : Option Span → Access → Access
+by_access None a = a
+by_access (Some call) a = blamed call a
+
+abbrev pub by_call : Option Span → List Access → List Access
+by_call by all = map (by_access by) all
+
+abbrev pub by_loop : Option Span → Loop → Loop
+by_loop None loop = loop
+by_loop (Some call) loop = loop_from call loop
+
+abbrev pub by_loops : Option Span → List Loop → List Loop
+by_loops by all = map (by_loop by) all

@@ -41,7 +41,7 @@ pub(crate) fn first_of(a: Option<Break>, b: Option<Break>) -> Option<Break>
     }
 }
 
-fn one(rule: u8, at: Span) -> Option<Break>
+pub(crate) fn one(rule: u8, at: Span) -> Option<Break>
     ensures { result ≡ first_break (breaks_at rule (at ∷ [])) }
 {
     Some(Break { rule, at })

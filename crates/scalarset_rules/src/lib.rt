@@ -2,10 +2,14 @@
 //! the turns of a `for` over nodes do not meet. The definitions stand in `specs/`.
 #![tactic(auto)]
 
+pub mod discipline;
 pub mod judge;
 pub mod laws;
 pub mod nested;
+pub mod opened;
 pub mod piece;
 pub mod place;
+pub mod scan;
 pub mod shape;
 pub mod touch;
+pub mod within;

@@ -143,7 +143,7 @@ fn copy_parts(alloc: Global, all: &[Part]) -> Result<Items<Part>, Memory>
     Ok(out)
 }
 
-fn copy_shape(alloc: Global, shape: &Shape) -> Result<Shape, Memory>
+pub(crate) fn copy_shape(alloc: Global, shape: &Shape) -> Result<Shape, Memory>
     ensures { IfOk result (λ s. s ≡ shape.now) }
 {
     let parts = copy_parts(alloc, shape.parts.as_slice())?;
@@ -248,7 +248,7 @@ fn shape(alloc: Global, level: Level, stands: &[Stand], place: &Designator) -> R
     })
 }
 
-fn first_token(place: &Designator) -> Span
+pub(crate) fn first_token(place: &Designator) -> Span
     ensures { result ≡ at_of place.now }
 {
     match place {

@@ -65,7 +65,12 @@ fn labels(
 
 /// What a statement reads, writes and calls.
 #[cycle(touches)]
-fn touches(alloc: Global, level: Level, stands: &[Stand], s: &Stmt) -> Result<Items<Piece>, Memory>
+pub(crate) fn touches(
+    alloc: Global,
+    level: Level,
+    stands: &[Stand],
+    s: &Stmt,
+) -> Result<Items<Piece>, Memory>
     ensures { IfOk result (λ v. map seen_piece v ≡ pieces (scope_at level.depth level.bound stands.now) s.now) }
 {
     match s {

@@ -1,0 +1,12 @@
+use Rattle.std.proofs.Common.{refl}
+use Rattle.scalarset_rules.specs.declared.scan.Want.TheVariants as want
+use Rattle.scalarset_rules.specs.Scanning.{first_in_body}
+use Rattle.murphi_typed.specs.declared.protocol.Rule.{Rule}
+use Rattle.scalarset_rules.specs.Verdicts.{first_rule_clears}
+use Rattle.scalarset_rules.proofs.ScanEquations.{fold_step}
+use Rattle.scalarset_rules.proofs.discipline.rule_clears.Goals as goal
+
+pub loop-r-preserved : goal.loop-r-preserved
+loop-r-preserved c =
+    fold_step (λ (x : Rule). first_in_body want.Clear x.body) (first_rule_clears) (λ x xs. refl) c.args.all.now c.loop-r.r-index c.r-item.result
+    c.loop-r.first c.scan_body.result c.first_of-first.result c.loop-r-test.true c.r-item.is c.first_of-first.ensures c.scan_body.ensures c.loop-r.invariant
