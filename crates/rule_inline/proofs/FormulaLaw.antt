@@ -45,11 +45,11 @@ use Rattle.rule_inline.proofs.ParameterLemmas.{at_instance, instances_fit, Fits,
 
 -- Lists
 
-all_each : {X : Type 0} (P : X → Type 0) (xs : List X) → All P xs → Each P xs
+pub all_each : {X : Type 0} (P : X → Type 0) (xs : List X) → All P xs → Each P xs
 all_each P [] a = tt
 all_each P (x ∷ xs) a = (All-head P x xs a, all_each P xs (All-tail P x xs a))
 
-each_all : {X : Type 0} (P : X → Type 0) (xs : List X) → Each P xs → All P xs
+pub each_all : {X : Type 0} (P : X → Type 0) (xs : List X) → Each P xs → All P xs
 each_all P [] e = All-nil P
 each_all P (x ∷ xs) (p, e) = All-cons P x xs p (each_all P xs e)
 

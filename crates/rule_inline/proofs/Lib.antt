@@ -27,3 +27,5 @@ pub mod ParameterLemmas
 pub mod FormulaLaw
 pub mod KindLemmas
 pub mod LooplessLaw
+pub mod RuleLemmas
+pub mod StepLemmas
