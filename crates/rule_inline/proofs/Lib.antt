@@ -29,3 +29,5 @@ pub mod KindLemmas
 pub mod LooplessLaw
 pub mod RuleLemmas
 pub mod StepLemmas
+pub mod StepLaw
+pub mod FiringLaw

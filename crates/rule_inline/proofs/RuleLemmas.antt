@@ -123,7 +123,7 @@ module _ (binds : PlacingBinds) (fit : ValuesFitInBodies) (keep : BodiesKeepType
   site_is : at_frame ns (top_site key) ≡ top_site key
   site_is = ap (λ n. record (top_site key) { frame = n }) long
 
-  abbrev top_guard : Option Guard → Outcome Bool
+  abbrev pub top_guard : Option Guard → Outcome Bool
   top_guard None = Got true
   top_guard (Some guard) = given (worked (store_calls T) (outermost N (at_nodes key ns)) guard.at store guard.test) (λ w. Got (truth w))
 

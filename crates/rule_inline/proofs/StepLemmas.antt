@@ -79,7 +79,7 @@ fixed_no (v.Number z ∷ at) = (refl, fixed_no at)
 fixed_no (v.Member k i ∷ at) = (refl, fixed_no at)
 fixed_no (v.Node n ∷ at) = fixed_no at
 
-each_at : {X : Type 0} (P : X → Type 0) (xs : List X) → Each P xs → (k : ℕ) (y : X) → slice_get xs k ≡ Some y → P y
+pub each_at : {X : Type 0} (P : X → Type 0) (xs : List X) → Each P xs → (k : ℕ) (y : X) → slice_get xs k ≡ Some y → P y
 each_at P [] e k y found = cc
 each_at P (z ∷ zs) (p, e) zero y found = let same : z ≡ y = cc in subst P same p
 each_at P (z ∷ zs) (p, e) (suc k) y found = each_at P zs e k y found
@@ -170,7 +170,7 @@ module _ (N : ℕ) where
   pub each_family : (T : Typed) (P : Cell → Type 0) → Each P (cells N T) → Each (OfFamily P) (families_of T)
   each_family T P e = each_map (OfFamily P) family_of (cells 1 T) (reach_from P 0 T.globals e)
 
-  each_found : {X : Type 0} (P : X → Type 0) (xs : List X) → ((k : ℕ) (y : X) → slice_get xs k ≡ Some y → P y) → Each P xs
+  pub each_found : {X : Type 0} (P : X → Type 0) (xs : List X) → ((k : ℕ) (y : X) → slice_get xs k ≡ Some y → P y) → Each P xs
   each_found P [] f = tt
   each_found P (y ∷ ys) f = (f 0 y refl, each_found P ys (λ k z found. f (suc k) z found))
 
