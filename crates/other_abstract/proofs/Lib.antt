@@ -12,3 +12,7 @@ pub mod TestLemmas
 pub mod ViolationLemmas
 pub mod SomeLemmas
 pub mod PatternLemmas
+pub mod SetLemmas
+pub mod MayEquations
+pub mod ReadLemmas
+pub mod EvaluateLemmas

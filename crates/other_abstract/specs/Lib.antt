@@ -6,4 +6,5 @@ pub mod Images
 pub mod Machines
 pub mod Patterns
 pub mod Tests
+pub mod Lists
 pub mod Laws

@@ -2,9 +2,13 @@
 //! rest. It covers the machine for every number of nodes from m up.
 #![tactic(auto)]
 
+pub mod combine;
 pub mod laws;
 pub mod lead;
 pub mod machine;
 pub mod node;
+pub mod read;
+pub mod scene;
+pub mod set;
 pub mod state;
 pub mod value;
