@@ -172,14 +172,14 @@ module _ (laws : Known) (N : ℕ) (M : AbstractMachine) (whole : IsWhole M.machi
     pub reached_holds : (s : State) → IsReached N M.machine s → AllHold N M s
     reached_holds s (earlier, run) = phi_holds s (laws.reached N M.machine s whole (earlier, run)) (λ c choice long. clean (seen c s) (images_good earlier s run c choice long))
 
-  -- T4c: no run ends in a violation
+  -- no run ends in a violation
   pub safe_holds : IsSafe M → (s : State) → IsReached N M.machine s → AllHold N M s
   safe_holds safe = reached_holds (λ t. (earlier : List AbsCells) × IsAbsRun M (t ∷ earlier))
       (λ k p t starts. ([], (k, p, starts)))
       (λ s k p w t (earlier, run) fires. (s ∷ earlier, ((k, p, w, fires), run)))
       (λ s (earlier, run). safe.runs s earlier run)
 
-  -- T4c: the machine is inductive
+  -- the machine is inductive
   pub inductive_holds : IsInductive M → (s : State) → IsReached N M.machine s → AllHold N M s
   inductive_holds ind = reached_holds (λ t. FitsWindow (window M 0) t × IsClean M t)
       (λ k p t starts. (starts.2.next, ind.starts k p t starts))

@@ -134,7 +134,7 @@ module _ (laws : Known) where
             (becomes_covers N m families c more s p (update_for r.updates f) f at wider state long choice.once (λ body e. update_fits families r.updates f body reads.updates e) (cell_nodes m families f at is)));
       }
 
-  -- T4b: a step of N nodes, seen through any choice of kept nodes
+  -- a step of N nodes, seen through any choice of kept nodes
   pub step_covered : (N : ℕ) (M : AbstractMachine) (c p : List ℕ) (s t : State) (k : ℕ) → IsWhole M.machine → FormulasFit M → IsChoice N M.kept c → length c ≡ M.kept → IsState N M.machine.families s → AllHold N M s → Fires N M.machine s k p t
       → AbsFires M (image M.kept M.machine.families c (cell_value N M.machine.families s)) k (pattern_of M.kept c p) (image M.kept M.machine.families (extended c p) (cell_value N M.machine.families s)) (image M.kept M.machine.families c (cell_value N M.machine.families t))
   step_covered N M c p s t k whole fit choice long state all (r, at, nodes, step) =

@@ -190,7 +190,7 @@ module _ (laws : Known) where
             (starts_covers N m families c more p (update_for r.updates f) f at wider choice (laws.blank_state N families whole.blanks.0) long nodes.nodes (λ body e. update_fits families r.updates f body reads.updates e) is)));
       }
 
-  -- T4b for starts
+  -- the same for starts
   pub start_covered : (N : ℕ) (M : AbstractMachine) (c p : List ℕ) (s : State) (k : ℕ) → IsWhole M.machine → IsChoice N M.kept c → length c ≡ M.kept → Starts N M.machine k p s
       → AbsStarts M k (pattern_of M.kept c p) (image M.kept M.machine.families c (cell_value N M.machine.families s))
   start_covered N M c p s k whole choice long (r, at, nodes, is) =
