@@ -48,6 +48,7 @@ protocol kinds globals starts rules =
       node = None;
       globals = globals;
       routines = [];
+      weights = [];
       starts = starts;
       rules =
           rules;

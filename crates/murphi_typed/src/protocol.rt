@@ -124,8 +124,9 @@ pub struct Declared {
 }
 
 /// A typed protocol. Globals, routines, start states, rules and invariants stand in text order. `names`
-/// are all global names in the order in which they are declared, for the typing of lemmas. There is no
-/// node type where none is named.
+/// are all global names in the order in which they are declared, and `weights` are those of the bodies
+/// of the routines, in their order: both are for the typing of lemmas. A weight that a u64 cannot hold is
+/// the greatest u64. There is no node type where none is named.
 #[derive(Drop)]
 pub struct Typed {
     pub names: Items<Declared>,
@@ -133,6 +134,7 @@ pub struct Typed {
     pub node: Option<NodeType>,
     pub globals: Items<Variable>,
     pub routines: Items<Routine>,
+    pub weights: Items<u64>,
     pub starts: Items<Start>,
     pub rules: Items<Rule>,
     pub invariants: Items<TypedFormula>,

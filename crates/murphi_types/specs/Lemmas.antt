@@ -41,15 +41,15 @@ global_meaning T (entity.Variable k) = variable_meaning k (slice_get T.globals k
 global_meaning T (entity.Member kind index count) = meaning.Member kind index count
 global_meaning T (entity.Routine k) = meaning.Routine k
 
--- what a typed protocol has declared; the weights of its routines' bodies are counted while it is typed
-abbrev pub known_of : Typed → List ℕ → Known
-known_of T weights =
+-- what a typed protocol has declared
+abbrev pub known_of : Typed → Known
+known_of T =
     record {
       names = map (λ (n : Declared). entry n.name (global_meaning T n.what)) T.names;
       kinds = T.kinds;
       globals = T.globals;
       routines = T.routines;
-      weights = weights;
+      weights = T.weights;
     }
 
 -- a lemma stands in no body, and all routines of the text are declared before it
@@ -57,9 +57,9 @@ abbrev pub lemma_scope : Scope
 lemma_scope = record { inner = []; bound = 0; in_function = false; routines = []; node = None }
 
 -- a lemma is a truth value
-abbrev pub lemma_found : Typed → List ℕ → Expr → Found
-lemma_found T weights body =
-    wanted is_truth (place_of body) (found lemma_scope (known_of T weights) body)
+abbrev pub lemma_found : Typed → Expr → Found
+lemma_found T body =
+    wanted is_truth (place_of body) (found lemma_scope (known_of T) body)
 
 -- the weight of an ill-typed lemma is not looked at
 abbrev pub weight_faults_of : Span → Found → List Fault
@@ -69,11 +69,11 @@ abbrev pub global_names : Typed → List Name
 global_names T = map (λ (n : Declared). n.name) T.names
 
 -- all faults of a lemma
-abbrev pub lemma_faults : Typed → List ℕ → Expr → List Fault
-lemma_faults T weights body =
-    (lemma_found T weights body).faults
+abbrev pub lemma_faults : Typed → Expr → List Fault
+lemma_faults T body =
+    (lemma_found T body).faults
     ++ (repeats (global_names T) (enum_names body)
-    ++ (field_repeats body ++ weight_faults_of (place_of body) (lemma_found T weights body)))
+    ++ (field_repeats body ++ weight_faults_of (place_of body) (lemma_found T body)))
 
 -- the name of the constant that gives the size of the node type
 abbrev pub size_name : WrittenSize → Option Name
@@ -85,13 +85,13 @@ node_size_name (Some node) = size_name node.size
 node_size_name None = None
 
 -- the typed lemma; its name is given to it elsewhere
-abbrev pub lemma_typed : Typed → List ℕ → Expr → TypedFormula
-lemma_typed T weights body =
+abbrev pub lemma_typed : Typed → Expr → TypedFormula
+lemma_typed T body =
     record {
       title = [];
       params = [];
-      body = (lemma_found T weights body).tree;
-      prefix = formula_prefix T.routines [] (lemma_found T weights body).tree;
-      kinds = drop (length T.kinds) (lemma_found T weights body).known.kinds;
+      body = (lemma_found T body).tree;
+      prefix = formula_prefix T.routines [] (lemma_found T body).tree;
+      kinds = drop (length T.kinds) (lemma_found T body).known.kinds;
       uses = uses_of (node_size_name T.node) body;
     }

@@ -28,6 +28,7 @@ use Rattle.murphi_types.specs.Fitting.{simple_part}
 use Rattle.murphi_types.specs.Types.{FoundType, Unnamed, simple_wanted}
 use Rattle.murphi_types.specs.Typing.{type_found}
 use Rattle.murphi_types.specs.Declarations.{Declared, declared}
+use Rattle.murphi_types.specs.Weights.{stopped}
 use Rattle.murphi_types.specs.Statements.{Leaving, ByReturn, WithValue, FoundStmts, body_found}
 
 -- Formals
@@ -117,7 +118,8 @@ abbrev pub locals_of : Scope → FoundResult → List Fault → Declared
 locals_of s r faults =
     record { scope = s; known = r.known; locals = []; faults = faults ++ r.faults; limits = [] }
 
--- what a routine leaves for the rest of the text: its name, itself, and the weight of its body
+-- what a routine leaves for the rest of the text: its name, itself, and the weight of its body, which stops at the
+-- greatest u64
 abbrev pub routine_meaning : Bool → ℕ → Meaning
 routine_meaning true k = meaning.Routine k
 routine_meaning false k = meaning.Refused
@@ -127,7 +129,7 @@ with_routine k typed one weight =
     record k {
       names = k.names ++ entry one.name (routine_meaning typed (length k.routines)) ∷ [];
       routines = k.routines ++ one ∷ [];
-      weights = k.weights ++ weight ∷ [];
+      weights = k.weights ++ stopped weight ∷ [];
     }
 
 abbrev pub typed_routine : Name → FoundFormals → FoundResult → Declared → FoundStmts → Routine

@@ -190,6 +190,7 @@ typed_text node P =
       node = node_type node P (node_size node P);
       globals = (items_of node P).known.globals;
       routines = (items_of node P).known.routines;
+      weights = (items_of node P).known.weights;
       starts = (items_of node P).starts;
       rules = (items_of node P).rules;
       invariants = (items_of node P).invariants;

@@ -223,13 +223,14 @@ beside =
       node = None;
       globals = record { name = codes "x"; of = typ.Simple simple.Truth } ∷ [];
       routines = [];
+      weights = [];
       starts = [];
       rules = [];
       invariants = [];
     }
 
 abbrev pub lemma : Expr → Option Fault
-lemma body = first_fault (lemma_faults beside [] body)
+lemma body = first_fault (lemma_faults beside body)
 
 abbrev pub LemmasAreAsWorked : Type 0
 LemmasAreAsWorked =
@@ -244,6 +245,6 @@ LemmasAreAsWorked =
     -- `forall i : enum { B } do i = B end` has a kind of its own; with A it declares a global name again
     × (lemma (every (codes "i") 8 (enum 12 (named (codes "B") 19 ∷ [])) (equal (name (codes "i") 26) (name (codes "B") 30)))
     ≡ None)
-    × ((lemma_typed beside [] (every (codes "i") 8 (enum 12 (named (codes "B") 19 ∷ [])) (truth true 26))).kinds
+    × ((lemma_typed beside (every (codes "i") 8 (enum 12 (named (codes "B") 19 ∷ [])) (truth true 26))).kinds
     ≡ kind.Listed (codes "B" ∷ []) ∷ [])
     × (lemma (every (codes "i") 8 (enum 12 (named (codes "A") 19 ∷ [])) (truth true 26)) ≡ fault cause.E06 19)

@@ -209,6 +209,7 @@ arrays routines starts rules =
     record (protocol [] (variable (codes "A") (per_node boolean) ∷ variable (codes "B") (per_node boolean) ∷ []) starts
     rules) {
       routines = routines;
+      weights = [];
     }
 
 abbrev pub a_formal : List ℕ → Bool → AnyType → Formal

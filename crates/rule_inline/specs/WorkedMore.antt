@@ -32,6 +32,7 @@ mixed routines rules =
     ∷ variable (codes "w") pair_type ∷ variable (codes "v") pair_type ∷ variable (codes "q")
     (type.Simple (simple.Range (negsuc 1) (pos 5))) ∷ []) [] rules) {
       routines = routines;
+      weights = [];
     }
 
 abbrev pub plain_rule : Stmt → Rule

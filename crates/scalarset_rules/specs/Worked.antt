@@ -161,6 +161,7 @@ text node routines body =
       node = node;
       globals = globals;
       routines = routines;
+      weights = [];
       starts = [];
       rules = rule [] None body ∷ [];
       invariants = [];
@@ -201,6 +202,7 @@ count_text =
       node = Some (node_type size.Number (place 1 23) []);
       globals = variable (codes "c") (t.Simple numbers) ∷ [];
       routines = [];
+      weights = [];
       starts = start [] (one (s.Assign (count_at 1) numbers (x.Known (value.Number (pos 0))))) ∷ [];
       rules =
           rule [] None (one counting) ∷ [];
