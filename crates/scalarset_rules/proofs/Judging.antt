@@ -1,6 +1,6 @@
 -- In a loop that breaks no rule each access keeps to the places of the families that it is to.
-use Rattle.std.proofs.Common.{◌≡◌, ℕ, Bool, true, false, not, ◌&&◌, ◌||◌, List, [], ◌∷◌, ◌++◌, Option, None, Some, ◌⊎◌, inl, inr, refl, sym, ap, ◌∙◌, subst}
-use Rattle.std.specs.Prelude.{if◌then◌else◌, is_some, cond}
+use Rattle.std.proofs.Common.{◌≡◌, ℕ, zero, suc, ◌≤◌, Bool, true, false, not, ◌&&◌, ◌||◌, List, [], ◌∷◌, ◌++◌, Option, None, Some, ◌⊎◌, inl, inr, refl, sym, ap, ◌∙◌, subst, arith}
+use Rattle.std.specs.Prelude.{if◌then◌else◌, slice_get, is_some, cond}
 use Rattle.std.specs.List.{flat_map, filter, list_all}
 use Rattle.std.specs.Str.{bytes_eq}
 use Rattle.std.proofs.lemmas.Bool.{and_parts, and_from}
@@ -13,7 +13,7 @@ use Rattle.murphi_typed.specs.Store.{Owner, same_owner}
 use Rattle.murphi_typed.specs.WellTyped.{field_part}
 use Rattle.murphi_typed.specs.Keeping.{Declared}
 use Rattle.scalarset_rules.specs.Accesses.{Binder, Part, Field, Index, Access, Loop}
-use Rattle.scalarset_rules.specs.Rules.{is_prefix, overlap, marks, has_at, place_of_write, blame, rule_of, lacks, write_breaks, is_deeper, judged, breaks_of_write, loop_breaks}
+use Rattle.scalarset_rules.specs.Rules.{is_prefix, overlap, marks, is_it, has_at, one_later, first_at, place_of_write, blame, rule_of, lacks, write_breaks, is_deeper, judged, breaks_of_write, loop_breaks}
 use Rattle.scalarset_rules.specs.Turns.{fields, is_front, covers, place_in, family_place, array_item, part_type, goes_down, is_writable}
 use Rattle.scalarset_rules.proofs.Sameness.{false-true, some_same, owners_true, owner_itself, names_true, name_itself}
 use Rattle.scalarset_rules.proofs.Keeping.{Places, fine_at, Good, AllGood}
@@ -116,6 +116,29 @@ pub no_blame : (b : Bool) (rule : ℕ) (at : Span) (by from : Option Span) → (
 no_blame true rule at by from e = blame_one rule at by from e
 no_blame false rule at by from e = refl
 
+pub in_get : {A : Type 0} (xs : List A) (k : ℕ) (a : A) → slice_get xs k ≡ Some a → In a xs
+in_get [] k a e = cc
+in_get (x ∷ xs) zero a e = inl (sym (some_same e))
+in_get (x ∷ xs) (suc k) a e = inr (in_get xs k a e)
+
+-- the first place of the variable is the least
+later_place : (o : Option ℕ) (j : ℕ) → one_later o ≡ Some j → (i : ℕ) × ((o ≡ Some i) × (j ≡ suc i))
+later_place None j e = cc
+later_place (Some i) j e = (i, (refl, sym (some_same e)))
+
+first_least : (v : Binder) (ms : List (Option Binder)) (j k : ℕ) → first_at v ms ≡ Some j → has_at v k ms ≡ true → j ≤ k
+first_least v [] j k e h = cc
+first_least v (m ∷ ms) j k e h = go (λ i l. first_least v ms i l) (is_it v m) refl e k h
+  where
+    go : ((i l : ℕ) → first_at v ms ≡ Some i → has_at v l ms ≡ true → i ≤ l) → (b : Bool) → is_it v m ≡ b → (if b then Some 0 else one_later (first_at v ms)) ≡ Some j → (k : ℕ) → has_at v k (m ∷ ms) ≡ true → j ≤ k
+    go again true was e k h = let z : 0 ≡ j = some_same e in omega (arith, z)
+    go again false was e zero h = false-true (sym was ∙ h)
+    go again false was e (suc k) h =
+        let (i, found) = later_place (first_at v ms) j e in
+        let less : i ≤ k = again i k found.0 h in
+        let same : j ≡ suc i = found.1 in
+        omega (arith, less, same)
+
 not_false : (b : Bool) → not b ≡ false → b ≡ true
 not_false true e = refl
 not_false false e = false-true (sym e)
@@ -180,6 +203,35 @@ module _ (types : Declared) (loop : Loop) (unbroken : loop_breaks loop ≡ []) (
           let itself : covers a a.shape.owner path ≡ true = and_from (same_owner a.shape.owner a.shape.owner) _ (owner_itself a.shape.owner) front in
           let here : (b.write && covers b a.shape.owner path) ≡ true = sym (ap (λ (c : Access). c.write && covers c a.shape.owner path) same) ∙ and_from a.write (covers a a.shape.owner path) is itself in
           false-true (sym e ∙ here)
+
+  -- what overlaps a write has the variable at the place of the write
+  write_keeps : (w a : Access) (path : Path) (j : ℕ) → In w (judged loop) → In a (judged loop) → w.write ≡ true → place_of_write loop.variable w ≡ Some j → w.shape.owner ≡ a.shape.owner → is_front (fields w.shape.parts) path ≡ true → is_front (fields a.shape.parts) path ≡ true → has_at loop.variable j (marks a.shape.parts) ≡ true
+  write_keeps w a path j w_in a_in writes at same w_front front =
+      let (i, placed) = write_place w w_in writes in
+      let ij : i ≡ j = some_same (sym placed.0 ∙ at) in
+      let fine : write_breaks loop.variable (judged loop) w (Some j) ≡ [] = subst (λ x. write_breaks loop.variable (judged loop) w (Some x) ≡ []) ij placed.1 in
+      let none : (if lacks loop.variable j w a then blame (rule_of a) a.at w.by a.by else []) ≡ [] = none_in (λ a. if lacks loop.variable j w a then blame (rule_of a) a.at w.by a.by else []) (judged loop) a fine a_in in
+      let has : lacks loop.variable j w a ≡ false = no_blame (lacks loop.variable j w a) (rule_of a) a.at w.by a.by none in
+      let w_down : is_some (part_type (types a.shape.owner) w.shape.parts) ≡ true = sym (ap (λ o. is_some (part_type (types o) w.shape.parts)) same) ∙ all_in (goes_down types) (judged loop) w typed w_in in
+      let a_down : is_some (part_type (types a.shape.owner) a.shape.parts) ≡ true = all_in (goes_down types) (judged loop) a typed a_in in
+      let owners : same_owner w.shape.owner a.shape.owner ≡ true = ap (λ o. same_owner o a.shape.owner) same ∙ owner_itself a.shape.owner in
+      let meet : overlap w.shape a.shape ≡ true = and_from (same_owner w.shape.owner a.shape.owner) _ owners (comparable (types a.shape.owner) w.shape.parts a.shape.parts path w_down a_down w_front front) in
+      not_false (has_at loop.variable j (marks a.shape.parts)) (sym (ap (λ b. b && not (has_at loop.variable j (marks a.shape.parts))) meet) ∙ has)
+
+  -- a write has the place of each family that it is to
+  pub write_at_place : (a : Access) (path : Path) → In a loop.accesses → a.write ≡ true → is_deeper loop.variable.depth a.shape.owner ≡ false → is_front (fields a.shape.parts) path ≡ true → (k : ℕ) × ((family_place loop a.shape.owner path ≡ Some k) × (place_of_write loop.variable a ≡ Some k))
+  write_at_place a path i writes near front =
+      let a_in : In a (judged loop) = in_judged a i near in
+      let (k, of_family) = write_placed loop.accesses a path (λ b x. x) i writes near front in
+      let (j, placed) = write_place a a_in writes in
+      let (w, found) = placed_by loop.accesses a.shape.owner path k of_family in
+      let same : w.shape.owner ≡ a.shape.owner = covered_owner w a.shape.owner path found.1.1.0 in
+      let w_in : In w (judged loop) = in_judged w found.0 (ap (is_deeper loop.variable.depth) same ∙ near) in
+      let w_front : is_front (fields w.shape.parts) path ≡ true = (and_parts (same_owner w.shape.owner a.shape.owner) (is_front (fields w.shape.parts) path) found.1.1.0).1 in
+      let before : j ≤ k = first_least loop.variable (marks a.shape.parts) j k placed.0 (keeps_place a path k i near front of_family) in
+      let after : k ≤ j = first_least loop.variable (marks w.shape.parts) k j found.1.1.1 (write_keeps a w path j a_in w_in writes placed.0 (sym same) front w_front) in
+      let one : j ≡ k = omega (arith, before, after) in
+      (k, (of_family, placed.0 ∙ ap Some one))
 
   access_good : (a : Access) → In a loop.accesses → Good loop.variable (family_place loop) a
   access_good a i = record { writable = all_in is_writable loop.accesses a writable i; keeps = λ path near front. go path near front a.write refl (place_in loop.variable loop.accesses a.shape.owner path) refl }

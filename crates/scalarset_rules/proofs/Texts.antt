@@ -25,9 +25,9 @@ use Rattle.murphi_typed.specs.Store.{Owner, Global, Local, Formal}
 use Rattle.murphi_typed.specs.WellTyped.{labels_fit, Scope as Typing, binding as typing_inside, variable_type, formal_type, root_type, may_write, is_type, formal_allowed, is_simple_type, are_variables, are_parameter_types, is_of, is_function, stmt_fits, body_fits, arms_fit, cases_fit, type_of, top_scope as typing_top, routine_scope as typing_routine, routine_fits, routines_fit, guard_fits, rule_fits, start_fits}
 use Rattle.murphi_typed.specs.Keeping.{Declared}
 use Rattle.scalarset_rules.specs.Accesses.{Part, placed_shape, Shape, Stand, Valued, Placed, Scope, binding, called, root_shape, stands_of, Access, OpenedLoops, accesses, all_accesses, opened_in, Loop, loop_from, loops, all_loops, arm_loops, case_loops, loops_in}
-use Rattle.scalarset_rules.specs.Rules.{Break, bad_return, Standing, statements, inner_statements, row_statements, arm_statements, case_statements, return_breaks, is_deeper, loop_breaks, node_breaks, routine_breaks, top_scope, breaks, bodies, clear_breaks, for_breaks, size_uses, size_form, breaks_with, node_type_breaks, first_break, sooner, is_before, broken}
+use Rattle.scalarset_rules.specs.Rules.{Break, bad_return, Standing, statements, inner_statements, row_statements, arm_statements, case_statements, return_breaks, is_deeper, loop_breaks, node_breaks, routine_breaks, top_scope, routine_scope, breaks, bodies, clear_breaks, for_breaks, size_uses, size_form, breaks_with, node_type_breaks, first_break, sooner, is_before, broken}
 use Rattle.scalarset_rules.specs.Turns.{goes_down, is_formal, is_writable, loop_over, KeepsApart}
-use Rattle.scalarset_rules.specs.Apart.{Routines, IsApart, AreApart, ArmsApart, CasesApart, either_of, ApartIn, BodyApart, UnbrokenTextsKeepApart}
+use Rattle.scalarset_rules.specs.Apart.{Routines, IsApart, AreApart, ArmsApart, CasesApart, either_of, ApartIn, BodyApart, FunctionsHaveNoLoops, UnbrokenTextsKeepApart}
 use Rattle.scalarset_rules.proofs.Sameness.{false-true, some_same}
 use Rattle.scalarset_rules.proofs.Calling.{nearer}
 use Rattle.scalarset_rules.proofs.Staying.{Free, free_from, free_front, free_back}
@@ -452,3 +452,16 @@ unbroken_texts T node typed is_node unbroken =
         let (params, rest) = and_parts (are_parameter_types T.kinds r.params) _ e in
         let (locals, more) = and_parts (are_variables T.kinds r.locals) _ rest in
         (and_parts (guard_fits (typing_top T r.locals r.params) r.guard) _ more).1
+
+pub functions_have_no_loops : FunctionsHaveNoLoops
+functions_have_no_loops T node k r is_node unbroken there is = go (is_some r.result) is (none_at (routine_breaks T.routines) T.routines k r routines there)
+  where
+    no_breaks' : breaks_with T node ≡ []
+    no_breaks' = sym (ap (node_type_breaks T) is_node) ∙ (none_left (flat_map clear_breaks (bodies T)) _ (none_first (breaks T) unbroken)).1
+
+    routines : flat_map (routine_breaks T.routines) T.routines ≡ []
+    routines = (none_left (flat_map (routine_breaks T.routines) T.routines) _ (none_left (size_form node.size node.size_at) _ (none_left (size_uses node) _ no_breaks').1).1).0
+
+    go : (b : Bool) → b ≡ true → ((if b then for_breaks r.body else []) ++ node_breaks T.routines (routine_scope r) r.body) ≡ [] → for_breaks r.body ≡ []
+    go true e none = (none_left (for_breaks r.body) _ none).0
+    go false e none = false-true e

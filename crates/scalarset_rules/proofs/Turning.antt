@@ -17,12 +17,12 @@ use Rattle.murphi_typed.specs.Execution.{Ending, Next, Returned, cells_after, th
 use Rattle.murphi_typed.specs.Keeping.{Declared}
 use Rattle.scalarset_rules.specs.Accesses.{Binder, Stand, Valued, Placed, Scope, binding, next_binder, stand_mark, opened_in}
 use Rattle.scalarset_rules.specs.Rules.{marks, is_it, is_deeper}
-use Rattle.scalarset_rules.specs.Turns.{node_at, is_own, is_formal, family_place, is_outer, are_outer, IsStand, AreStands, StandsIn, loop_over, KeepsApart, in_scope, LoopFaults, LoopEnds}
+use Rattle.scalarset_rules.specs.Turns.{node_at, is_own, is_formal, family_place, is_outer, are_outer, IsStand, AreStands, StandsIn, loop_over, KeepsApart, in_scope, LoopFaults, LoopEnds, TurnsGoOn, WritesHaveOnePlace}
 use Rattle.scalarset_rules.proofs.Sameness.{false-true, got_same, fault_got, values_true}
 use Rattle.scalarset_rules.proofs.Keeping.{Places, is_shared, readable, writable, Agree, Kept, Marked, PlaceStands, Fits}
 use Rattle.scalarset_rules.proofs.Running.{Alike, all_alike}
 use Rattle.scalarset_rules.proofs.Calling.{calls_alike}
-use Rattle.scalarset_rules.proofs.Judging.{loop_good}
+use Rattle.scalarset_rules.proofs.Judging.{in_get, write_at_place, loop_good}
 use Rattle.scalarset_rules.proofs.Staying.{GoesOn, free_from, all_goes}
 
 -- The first body of a loop stands where the loop does
@@ -227,3 +227,20 @@ loop_ends l types routines scope scene body cells after stands apart fine =
         not_true : (b : Bool) → not b ≡ true → b ≡ false
         not_true true e = sym e
         not_true false e = refl
+
+pub turns_go_on : TurnsGoOn
+turns_go_on l types routines scope scene body cells node after apart was =
+    go after (subst GoesOn was (body_goes types routines scope scene body apart node cells))
+  where
+    go : (e : Ending) → GoesOn (Got e) → (end : Cells) × (e ≡ Next end)
+    go (Next end) on = (end, refl)
+    go (Returned end r) on = absurd on
+
+pub writes_have_one_place : WritesHaveOnePlace
+writes_have_one_place l types routines scope body k a path apart there writes near front =
+    write_at_place types (loop_over routines scope body) apart.unbroken apart.typed apart.writable a path
+    (in_get (loop_over routines scope body).accesses k a there) writes (shallow (is_deeper scope.depth a.shape.owner) near) front
+  where
+    shallow : (b : Bool) → not b ≡ true → b ≡ false
+    shallow true e = sym e
+    shallow false e = refl

@@ -1,5 +1,5 @@
 -- Each loop over nodes of an opened body keeps its turns apart: the law of loops holds of each, wherever it stands.
-use Rattle.std.specs.Prelude.{◌≡◌, ℕ, Bool, true, false, nat_eq, List, [], ◌∷◌, reverse, length, None, Some, slice_get, IsTrue}
+use Rattle.std.specs.Prelude.{◌≡◌, ℕ, Bool, true, false, nat_eq, List, [], ◌∷◌, reverse, length, None, Some, slice_get, is_some, IsTrue}
 use Rattle.murphi_typed.specs.declared.types.Simple.{Simple}
 use Rattle.murphi_typed.specs.declared.types.Simple.TheVariants as simple
 use Rattle.murphi_typed.specs.declared.stmt.Stmt as s
@@ -12,7 +12,7 @@ use Rattle.murphi_typed.specs.declared.protocol.Typed.{Typed}
 use Rattle.murphi_typed.specs.Keeping.{Declared}
 use Rattle.murphi_typed.specs.WellTyped.{is_well_typed}
 use Rattle.scalarset_rules.specs.Accesses.{Scope, binding, called, stands_of}
-use Rattle.scalarset_rules.specs.Rules.{top_scope, broken}
+use Rattle.scalarset_rules.specs.Rules.{top_scope, for_breaks, broken}
 use Rattle.scalarset_rules.specs.Turns.{KeepsApart}
 
 -- a loop over nodes keeps its turns apart, where the variables in scope have some types
@@ -72,3 +72,9 @@ UnbrokenTextsKeepApart =
     (T : Typed) (node : NodeType) → IsTrue (is_well_typed T) → T.node ≡ Some node → broken T ≡ None
     → ((k : ℕ) (a : Start) → slice_get T.starts k ≡ Some a → BodyApart T (top_scope a.params) a.body)
     × ((k : ℕ) (r : Rule) → slice_get T.rules k ≡ Some r → BodyApart T (top_scope r.params) r.body)
+
+-- in a text that breaks no rule no function has a loop over nodes
+abbrev pub FunctionsHaveNoLoops : Type 0
+FunctionsHaveNoLoops =
+    (T : Typed) (node : NodeType) (k : ℕ) (r : Routine) → T.node ≡ Some node → broken T ≡ None
+    → slice_get T.routines k ≡ Some r → is_some r.result ≡ true → for_breaks r.body ≡ []

@@ -1,6 +1,6 @@
 -- What the rules are for: the turns of a `for` over nodes that breaks none of them do not meet. It is said of
 -- execution alone.
-use Rattle.std.specs.Prelude.{◌≡◌, ℕ, zero, suc, ◌≤◌, ◌<◌, Bool, true, false, not, ◌&&◌, List, [], ◌∷◌, length, Option, None, Some, if◌then◌else◌, is_some}
+use Rattle.std.specs.Prelude.{◌≡◌, ℕ, zero, suc, ◌≤◌, ◌<◌, Bool, true, false, not, ◌&&◌, List, [], ◌∷◌, length, Option, None, Some, if◌then◌else◌, slice_get, is_some}
 use Rattle.std.specs.List.{list_all}
 use Rattle.std.specs.Str.{bytes_eq}
 use Rattle.term_core.specs.declared.value.Value.{Value}
@@ -179,3 +179,22 @@ LoopEnds =
     → ((node : ℕ) → 1 ≤ node → node ≤ scene.nodes → turn routines scene body node cells ≡ Got (after node))
     → (end : Cells) × ((whole routines scene body cells ≡ Got (Next end))
     × AreMerged scene.nodes scope.depth (loop_over routines scope body) cells after end)
+
+-- a turn that does not fault goes on: it leaves no routine, as no `return` stands in the loop
+abbrev pub TurnsGoOn : Type 0
+TurnsGoOn =
+    (n : _) (types : Declared) (routines : List Routine) (scope : Scope) (scene : Scene) (body : Row_of-Stmt n)
+    (cells : Cells) (node : ℕ) (after : Ending)
+    → KeepsApart types routines scope body → turn routines scene body node cells ≡ Got after
+    → (end : Cells) × (after ≡ Next end)
+
+-- all writes of a loop to the cells of a family have one place, which is the place of the family
+abbrev pub WritesHaveOnePlace : Type 0
+WritesHaveOnePlace =
+    (n : _) (types : Declared) (routines : List Routine) (scope : Scope) (body : Row_of-Stmt n) (k : ℕ) (a : Access)
+    (path : Path)
+    → KeepsApart types routines scope body
+    → slice_get (loop_over routines scope body).accesses k ≡ Some a → a.write ≡ true
+    → in_scope scope.depth a.shape.owner ≡ true → is_front (fields a.shape.parts) path ≡ true
+    → (place : ℕ) × ((family_place (loop_over routines scope body) a.shape.owner path ≡ Some place)
+    × (place_of_write (next_binder scope) a ≡ Some place))
