@@ -3,6 +3,7 @@
 #![tactic(auto)]
 
 pub mod combine;
+pub mod evaluate;
 pub mod laws;
 pub mod lead;
 pub mod machine;

@@ -58,11 +58,10 @@ fn are_numbered(scene: &Scene, nodes: &[AbsNode]) -> bool
 }
 
 /// Whether there is a cell of this family at these nodes.
-fn is_cell(scene: &Scene, family: u32, nodes: &[AbsNode]) -> bool
+fn is_cell(scene: &Scene, family: usize, nodes: &[AbsNode]) -> bool
     ensures { result ≡ is_cell (size (window_in scene.now)) scene.now.families.now family (map (node_number
         scene.now.kept) nodes.now) }
 {
-    let family = family as usize;
     if family < scene.families.len() {
         if nodes.len() == scene.families[family].axes as usize {
             are_numbered(scene, nodes)
@@ -75,11 +74,11 @@ fn is_cell(scene: &Scene, family: u32, nodes: &[AbsNode]) -> bool
 }
 
 /// How many cells the families before this one have, if they are fewer than 2^64.
-fn first_place(scene: &Scene, family: u32) -> Option<usize>
+fn first_place(scene: &Scene, family: usize) -> Option<usize>
     ensures { let p = first_place (size (window_in scene.now)) scene.now.families.now family in SomeIff result (p < 2 ^ 64) p }
 {
     let nodes = size(scene);
-    let count = scene.families.len().min(family as usize);
+    let count = scene.families.len().min(family);
     let mut sum: usize = 0;
     for k in 0..count {
         match nodes.checked_pow(scene.families[k].axes) {
@@ -141,7 +140,7 @@ fn value_there(cells: &[AbsValue], first: Option<usize>, choice: Option<usize>) 
 }
 
 /// The value of the cell of a family at these nodes; undefined where there is no such cell.
-fn cell_value(scene: &Scene, family: u32, nodes: &[AbsNode]) -> AbsValue
+pub(crate) fn cell_value(scene: &Scene, family: usize, nodes: &[AbsNode]) -> AbsValue
     requires { 1 ≤ size (window_in scene.now) }
     ensures { result ≡ value_at (window_in scene.now) scene.now.cells.now family nodes.now }
 {
@@ -262,7 +261,7 @@ fn add_read(out: &mut ValueSet, scene: &Scene, family: u32, lead: &Lead) -> Resu
 {
     match lead {
         Lead::At(nodes) => {
-            out.add(cell_value(scene, family, nodes.as_slice()))?;
+            out.add(cell_value(scene, family as usize, nodes.as_slice()))?;
             Ok(())
         }
         Lead::Anywhere => {
