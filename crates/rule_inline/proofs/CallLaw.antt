@@ -45,17 +45,17 @@ pick_type true A B = A
 pick_type false A B = B
 
 -- what is asked of the loops of a called routine, where it is called like this
-abbrev pub fine_in : ((n : _) → Site → Row_of-Stmt n → Type 0) → List Routine → ℕ → Site → List Gift → Type 0
+abbrev pub fine_in : (List Routine → (n : _) → Site → Row_of-Stmt n → Type 0) → List Routine → ℕ → Site → List Gift → Type 0
 fine_in Q [] k site gifts = Unit {0}
 fine_in Q (r ∷ earlier) k site gifts =
-    pick_type (nat_eq k (length earlier)) (stmt_loops (calls_in earlier) (fine_in Q earlier) Q (called_site site r.result gifts) r.body)
+    pick_type (nat_eq k (length earlier)) (stmt_loops (calls_in earlier) (fine_in Q earlier) (Q earlier) (called_site site r.result gifts) r.body)
     (fine_in Q earlier k site gifts)
 
 -- functions have their loops as asked wherever they are called
-abbrev pub FunctionsFine : ((n : _) → Site → Row_of-Stmt n → Type 0) → List Routine → Type 0
+abbrev pub FunctionsFine : (List Routine → (n : _) → Site → Row_of-Stmt n → Type 0) → List Routine → Type 0
 FunctionsFine Q [] = Unit {0}
 FunctionsFine Q (r ∷ earlier) =
-    ((u : Simple) (site : Site) (gifts : List Gift) → r.result ≡ Some u → stmt_loops (calls_in earlier) (fine_in Q earlier) Q (called_site site r.result gifts) r.body)
+    ((u : Simple) (site : Site) (gifts : List Gift) → r.result ≡ Some u → stmt_loops (calls_in earlier) (fine_in Q earlier) (Q earlier) (called_site site r.result gifts) r.body)
     × FunctionsFine Q earlier
 
 picked : (A B : Type 0) (b : Bool) → b ≡ true → A → pick_type b A B
@@ -74,15 +74,15 @@ unpassed : (A B : Type 0) (b : Bool) → b ≡ false → pick_type b A B → B
 unpassed A B true e a = absurd_false (sym e)
 unpassed A B false e a = a
 
-pub function_fine : (Q : (n : _) → Site → Row_of-Stmt n → Type 0) (tail : List Routine) → FunctionsFine Q tail → (k : ℕ) (r : Routine) (u : Simple) → slice_get (reverse tail) k ≡ Some r → r.result ≡ Some u → (site : Site) (gifts : List Gift) → fine_in Q tail k site gifts
+pub function_fine : (Q : List Routine → (n : _) → Site → Row_of-Stmt n → Type 0) (tail : List Routine) → FunctionsFine Q tail → (k : ℕ) (r : Routine) (u : Simple) → slice_get (reverse tail) k ≡ Some r → r.result ≡ Some u → (site : Site) (gifts : List Gift) → fine_in Q tail k site gifts
 function_fine Q [] all k r u found is site gifts = tt
 function_fine Q (r0 ∷ earlier) (first, rest) k r u found is site gifts =
     found_in r0 r earlier k found
     (λ here same. picked _ _ (nat_eq k (length earlier)) here (first u site gifts (ap (λ (q : Routine). q.result) same ∙ is)))
     (λ there found'. passed _ _ (nat_eq k (length earlier)) there (function_fine Q earlier rest k r u found' is site gifts))
 
-module _ (binds : PlacingBinds) (fit : ValuesFitInBodies) (keep : BodiesKeepTypes) (results : FunctionsGiveResults) (enter : CalledBodiesAreTyped) (s : Cells) (P : Typed) (globals : are_variables P.kinds P.globals ≡ true) (Q : (n : _) → Site → Row_of-Stmt n → Type 0)
-    (loop_tells : (latest : List Routine) (types : Declared) → LoopsTell binds fit keep results s P latest types (calls_in latest) (fine_in Q latest) Q) where
+module _ (binds : PlacingBinds) (fit : ValuesFitInBodies) (keep : BodiesKeepTypes) (results : FunctionsGiveResults) (enter : CalledBodiesAreTyped) (s : Cells) (P : Typed) (globals : are_variables P.kinds P.globals ≡ true) (Q : List Routine → (n : _) → Site → Row_of-Stmt n → Type 0)
+    (loop_tells : (latest : List Routine) (types : Declared) → LoopsTell binds fit keep results s P latest types (calls_in latest) (fine_in Q latest) (Q latest)) where
   -- a call by its number among the last routines of a list
   abbrev pub CallTells : List Routine → Type 0
   CallTells tail =
@@ -98,7 +98,7 @@ module _ (binds : PlacingBinds) (fit : ValuesFitInBodies) (keep : BodiesKeepType
   module _ (latest : List Routine) (types : Declared) (h : Here s P latest types) (r : Routine) (earlier : List Routine) (args : Arguments) (gs : List Given) (gifts : List Gift)
       (known : LatestFit P earlier) (fits_r : routine_fits P (reverse earlier) r ≡ true) (all_functions : FunctionsFine Q earlier) (inner_calls : CallTells earlier)
       (fits : arguments_fit h.scope r.formals args ≡ true) (was : arguments_of (calls_of latest) h.scene h.at h.cells args ≡ Got gs) (are : ArgsAre h.scene.nodes s h.scene.depth h.fr r.formals gifts gs)
-      (fine : stmt_loops (calls_in earlier) (fine_in Q earlier) Q (called_site (at_frame h.fr h.site) r.result gifts) r.body) where
+      (fine : stmt_loops (calls_in earlier) (fine_in Q earlier) (Q earlier) (called_site (at_frame h.fr h.site) r.result gifts) r.body) where
     abbrev types' : Declared
     types' = inner_types (suc h.scene.depth) r.formals r.locals types
 
@@ -140,7 +140,7 @@ module _ (binds : PlacingBinds) (fit : ValuesFitInBodies) (keep : BodiesKeepType
 
     body_told : (tested : store_formals_fit h.scene.nodes r.formals gs ≡ true) → Tells h.scene.nodes s h.fr (given (run (calls_of earlier) (called_scene h.scene gs) (store_entered (suc h.scene.depth) gs h.cells) r.body) (checked h.scene.nodes s h.at r.result)) body_done.demands (EndsWith h.scene.nodes s (suc h.scene.depth) h.fr r.result body_done.change)
     unfolding callee body_done done_by
-    body_told tested = tells_stmt binds fit keep results s P earlier types' (calls_in earlier) (fine_in Q earlier) functions' procedures' (calls_unwritten earlier) Q (loop_tells earlier types') r.body (callee tested) h.at body_fits_r fine
+    body_told tested = tells_stmt binds fit keep results s P earlier types' (calls_in earlier) (fine_in Q earlier) functions' procedures' (calls_unwritten earlier) (Q earlier) (loop_tells earlier types') r.body (callee tested) h.at body_fits_r fine
 
     done_here : Done
     done_here = called (calls_in earlier) r (at_frame h.fr h.site) h.T gifts
@@ -194,7 +194,7 @@ module _ (binds : PlacingBinds) (fit : ValuesFitInBodies) (keep : BodiesKeepType
           (λ left. (w : Value) × (left.result ≡ Some w) × (value_of h.scene.nodes s h.fr ((calls_in (r0 ∷ earlier) k (at_frame h.fr h.site) h.T gifts).change.now Result) ≡ w)))
       at_this inner_calls here same = go (nat_eq k (length earlier)) here allowed
         where
-          go : (b : Bool) → b ≡ true → pick_type b (stmt_loops (calls_in earlier) (fine_in Q earlier) Q (called_site (at_frame h.fr h.site) r0.result gifts) r0.body) (fine_in Q earlier k (at_frame h.fr h.site) gifts) → (r.result ≡ None → Tells h.scene.nodes s h.fr (if b then call_of (calls_of earlier) r0 h.scene h.at gs h.cells else calls_of earlier k h.scene h.at gs h.cells) ((if b then called (calls_in earlier) r0 (at_frame h.fr h.site) h.T gifts else calls_in earlier k (at_frame h.fr h.site) h.T gifts).demands) (λ left. Rep h.scene.nodes s h.scene.depth h.fr ((if b then called (calls_in earlier) r0 (at_frame h.fr h.site) h.T gifts else calls_in earlier k (at_frame h.fr h.site) h.T gifts).change.now) left.cells))
+          go : (b : Bool) → b ≡ true → pick_type b (stmt_loops (calls_in earlier) (fine_in Q earlier) (Q earlier) (called_site (at_frame h.fr h.site) r0.result gifts) r0.body) (fine_in Q earlier k (at_frame h.fr h.site) gifts) → (r.result ≡ None → Tells h.scene.nodes s h.fr (if b then call_of (calls_of earlier) r0 h.scene h.at gs h.cells else calls_of earlier k h.scene h.at gs h.cells) ((if b then called (calls_in earlier) r0 (at_frame h.fr h.site) h.T gifts else calls_in earlier k (at_frame h.fr h.site) h.T gifts).demands) (λ left. Rep h.scene.nodes s h.scene.depth h.fr ((if b then called (calls_in earlier) r0 (at_frame h.fr h.site) h.T gifts else calls_in earlier k (at_frame h.fr h.site) h.T gifts).change.now) left.cells))
               × ((u : Simple) → r.result ≡ Some u → Tells h.scene.nodes s h.fr (if b then call_of (calls_of earlier) r0 h.scene h.at gs h.cells else calls_of earlier k h.scene h.at gs h.cells) ((if b then called (calls_in earlier) r0 (at_frame h.fr h.site) h.T gifts else calls_in earlier k (at_frame h.fr h.site) h.T gifts).demands ++ demand ((if b then called (calls_in earlier) r0 (at_frame h.fr h.site) h.T gifts else calls_in earlier k (at_frame h.fr h.site) h.T gifts).change.now Leaving) ∷ [])
               (λ left. (w : Value) × (left.result ≡ Some w) × (value_of h.scene.nodes s h.fr ((if b then called (calls_in earlier) r0 (at_frame h.fr h.site) h.T gifts else calls_in earlier k (at_frame h.fr h.site) h.T gifts).change.now Result) ≡ w)))
           go false e a = absurd_false e
@@ -208,7 +208,7 @@ module _ (binds : PlacingBinds) (fit : ValuesFitInBodies) (keep : BodiesKeepType
           (λ left. (w : Value) × (left.result ≡ Some w) × (value_of h.scene.nodes s h.fr ((calls_in (r0 ∷ earlier) k (at_frame h.fr h.site) h.T gifts).change.now Result) ≡ w)))
       at_earlier inner_calls there found' = go (nat_eq k (length earlier)) there allowed
         where
-          go : (b : Bool) → b ≡ false → pick_type b (stmt_loops (calls_in earlier) (fine_in Q earlier) Q (called_site (at_frame h.fr h.site) r0.result gifts) r0.body) (fine_in Q earlier k (at_frame h.fr h.site) gifts) → (r.result ≡ None → Tells h.scene.nodes s h.fr (if b then call_of (calls_of earlier) r0 h.scene h.at gs h.cells else calls_of earlier k h.scene h.at gs h.cells) ((if b then called (calls_in earlier) r0 (at_frame h.fr h.site) h.T gifts else calls_in earlier k (at_frame h.fr h.site) h.T gifts).demands) (λ left. Rep h.scene.nodes s h.scene.depth h.fr ((if b then called (calls_in earlier) r0 (at_frame h.fr h.site) h.T gifts else calls_in earlier k (at_frame h.fr h.site) h.T gifts).change.now) left.cells))
+          go : (b : Bool) → b ≡ false → pick_type b (stmt_loops (calls_in earlier) (fine_in Q earlier) (Q earlier) (called_site (at_frame h.fr h.site) r0.result gifts) r0.body) (fine_in Q earlier k (at_frame h.fr h.site) gifts) → (r.result ≡ None → Tells h.scene.nodes s h.fr (if b then call_of (calls_of earlier) r0 h.scene h.at gs h.cells else calls_of earlier k h.scene h.at gs h.cells) ((if b then called (calls_in earlier) r0 (at_frame h.fr h.site) h.T gifts else calls_in earlier k (at_frame h.fr h.site) h.T gifts).demands) (λ left. Rep h.scene.nodes s h.scene.depth h.fr ((if b then called (calls_in earlier) r0 (at_frame h.fr h.site) h.T gifts else calls_in earlier k (at_frame h.fr h.site) h.T gifts).change.now) left.cells))
               × ((u : Simple) → r.result ≡ Some u → Tells h.scene.nodes s h.fr (if b then call_of (calls_of earlier) r0 h.scene h.at gs h.cells else calls_of earlier k h.scene h.at gs h.cells) ((if b then called (calls_in earlier) r0 (at_frame h.fr h.site) h.T gifts else calls_in earlier k (at_frame h.fr h.site) h.T gifts).demands ++ demand ((if b then called (calls_in earlier) r0 (at_frame h.fr h.site) h.T gifts else calls_in earlier k (at_frame h.fr h.site) h.T gifts).change.now Leaving) ∷ [])
               (λ left. (w : Value) × (left.result ≡ Some w) × (value_of h.scene.nodes s h.fr ((if b then called (calls_in earlier) r0 (at_frame h.fr h.site) h.T gifts else calls_in earlier k (at_frame h.fr h.site) h.T gifts).change.now Result) ≡ w)))
           go true e a = absurd_false (sym e)

@@ -39,12 +39,12 @@ use Rattle.rule_inline.proofs.StepLaw.{StatesAreOne, cell_there, next_is, may_ha
 
 module _ (binds : PlacingBinds) (fit : ValuesFitInBodies) (keep : BodiesKeepTypes) (results : FunctionsGiveResults) (enter : CalledBodiesAreTyped) (top : TopBodiesAreTyped) (fill : FilledValues) (one : StatesAreOne) (have : StatesHaveValues) (steps : StepsLeadToStates)
     (N : ℕ) (T : Typed) (s : State) (well : is_well_typed T ≡ true) (state : IsState N T s)
-    (Q : (n : _) → Site → Row_of-Stmt n → Type 0)
-    (loop_tells : (latest : List Routine) (types : Declared) → LoopsTell binds fit keep results (cell_value N (trans T).families (state_over N T (trans T).families s)) T latest types (calls_in latest) (fine_in Q latest) Q)
+    (Q : List Routine → (n : _) → Site → Row_of-Stmt n → Type 0)
+    (loop_tells : (latest : List Routine) (types : Declared) → LoopsTell binds fit keep results (cell_value N (trans T).families (state_over N T (trans T).families s)) T latest types (calls_in latest) (fine_in Q latest) (Q latest))
     (fine : FunctionsFine Q (reverse T.routines))
     (k : ℕ) (r : Rule) (is_rule : slice_get T.rules k ≡ Some r) (fits : rule_fits T r ≡ true)
     (key : Key) (ns : List ℕ) (long : length ns ≡ holes key) (are : are_parameters N r.params (at_nodes key ns) ≡ true)
-    (loops : stmt_loops (calls_in (reverse T.routines)) (fine_in Q (reverse T.routines)) Q (top_site key) r.body) where
+    (loops : stmt_loops (calls_in (reverse T.routines)) (fine_in Q (reverse T.routines)) (Q (reverse T.routines)) (top_site key) r.body) where
   abbrev c : Cells
   c = cell_value N (trans T).families (state_over N T (trans T).families s)
 

@@ -116,8 +116,8 @@ module _ (N : ℕ) (c : Cells) where
 
 module _ (binds : PlacingBinds) (fit : ValuesFitInBodies) (keep : BodiesKeepTypes) (results : FunctionsGiveResults) (enter : CalledBodiesAreTyped) (top : TopBodiesAreTyped) (tables : FilledValues)
     (N : ℕ) (T : Typed) (more : List Kind) (s : State) (well : is_well_typed (with_kinds T more) ≡ true) (state : IsState N T s)
-    (Q : (n : _) → Site → Row_of-Stmt n → Type 0)
-    (loop_tells : (latest : List Routine) (types : Declared) → LoopsTell binds fit keep results (cell_value N (trans T).families (state_over N T (trans T).families s)) (with_kinds T more) latest types (calls_in latest) (fine_in Q latest) Q)
+    (Q : List Routine → (n : _) → Site → Row_of-Stmt n → Type 0)
+    (loop_tells : (latest : List Routine) (types : Declared) → LoopsTell binds fit keep results (cell_value N (trans T).families (state_over N T (trans T).families s)) (with_kinds T more) latest types (calls_in latest) (fine_in Q latest) (Q latest))
     (fine : FunctionsFine Q (reverse T.routines)) where
   abbrev cells : Cells
   cells = cell_value N (trans T).families (state_over N T (trans T).families s)

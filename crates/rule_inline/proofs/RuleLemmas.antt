@@ -85,8 +85,8 @@ module _ (N : ℕ) (c : Cells) (ns : List ℕ) where
 -- The body of a rule at some choice of its parameters
 
 module _ (binds : PlacingBinds) (fit : ValuesFitInBodies) (keep : BodiesKeepTypes) (results : FunctionsGiveResults) (enter : CalledBodiesAreTyped) (c : Cells) (T : Typed) (globals : are_variables T.kinds T.globals ≡ true)
-    (Q : (n : _) → Site → Row_of-Stmt n → Type 0)
-    (loop_tells : (latest : List Routine) (types : Declared) → LoopsTell binds fit keep results c T latest types (calls_in latest) (fine_in Q latest) Q)
+    (Q : List Routine → (n : _) → Site → Row_of-Stmt n → Type 0)
+    (loop_tells : (latest : List Routine) (types : Declared) → LoopsTell binds fit keep results c T latest types (calls_in latest) (fine_in Q latest) (Q latest))
     (fine : FunctionsFine Q (reverse T.routines))
     (N : ℕ) (locals : List Variable) (params : List Parameter) (key : Key) (ns : List ℕ) (long : length ns ≡ holes key) (store : Store)
     (typed : IsTypedBody T (reverse T.routines) (top_types T locals) (top_scope T locals params) (outermost N (at_nodes key ns)) store)
@@ -138,11 +138,11 @@ module _ (binds : PlacingBinds) (fit : ValuesFitInBodies) (keep : BodiesKeepType
       (λ w is. ap truth is)
 
   -- the body
-  pub body_told : (body : Stmt) → stmt_fits (top_scope T locals params) body ≡ true → stmt_loops (calls_in latest) (fine_in Q latest) Q (top_site key) body
+  pub body_told : (body : Stmt) → stmt_fits (top_scope T locals params) body ≡ true → stmt_loops (calls_in latest) (fine_in Q latest) (Q latest) (top_site key) body
       → Tells N c ns (given (run (store_calls T) (outermost N (at_nodes key ns)) store body) (checked N c no_place None)) (body_done T key body).demands (EndsWith N c 0 ns None (body_done T key body).change)
   body_told body fits loops =
       subst (λ site. Tells N c ns (given (run (store_calls T) (outermost N (at_nodes key ns)) store body) (checked N c no_place None)) (done_by (calls_of T) site (top_terms T key) body).demands (EndsWith N c 0 ns None (done_by (calls_of T) site (top_terms T key) body).change)) site_is
-      (tells_stmt binds fit keep results c T latest types (calls_in latest) (fine_in Q latest) functions procedures (calls_unwritten latest) Q (loop_tells latest types) body at_top no_place fits (subst (λ site. stmt_loops (calls_in latest) (fine_in Q latest) Q site body) (sym site_is) loops))
+      (tells_stmt binds fit keep results c T latest types (calls_in latest) (fine_in Q latest) functions procedures (calls_unwritten latest) (Q latest) (loop_tells latest types) body at_top no_place fits (subst (λ site. stmt_loops (calls_in latest) (fine_in Q latest) (Q latest) site body) (sym site_is) loops))
 
   unchecked : (o : Outcome Ending) → given o (checked N c no_place None) ≡ o
   unchecked (Fault at) = refl
@@ -163,7 +163,7 @@ module _ (binds : PlacingBinds) (fit : ValuesFitInBodies) (keep : BodiesKeepType
   top_fired guard body = given (top_guard guard) (λ enabled. if enabled then given (given (run (store_calls T) (outermost N (at_nodes key ns)) store body) (λ e. Got (state_of N T (cells_after e)))) (λ next. Got (Some next)) else Got None)
 
   -- firing, by the demands of guard and body
-  pub fired_told : (guard : Option Guard) (body : Stmt) → guard_fits (top_scope T locals params) guard ≡ true → stmt_fits (top_scope T locals params) body ≡ true → stmt_loops (calls_in latest) (fine_in Q latest) Q (top_site key) body
+  pub fired_told : (guard : Option Guard) (body : Stmt) → guard_fits (top_scope T locals params) guard ≡ true → stmt_fits (top_scope T locals params) body ≡ true → stmt_loops (calls_in latest) (fine_in Q latest) (Q latest) (top_site key) body
       → Tells N c ns (top_fired guard body) ((guard_of T key guard).demands ++ under_test (holes key) (guard_of T key guard).term (body_done T key body).demands) (FireEnds (guard_of T key guard) body (body_done T key body).change)
   fired_told guard body guard_fine fits loops =
       subst (λ n. Tells N c ns (top_fired guard body) ((guard_of T key guard).demands ++ under_test n (guard_of T key guard).term (body_done T key body).demands) (FireEnds (guard_of T key guard) body (body_done T key body).change)) long

@@ -33,7 +33,7 @@ StatesAreOne =
     (N : ℕ) (families : List CellFamily) (s t : MachineState) → length s ≡ length (cells N families) → length t ≡ length (cells N families)
     → ((f : ℕ) (at : List ℕ) → IsTrue (is_cell N families f at) → cell_value N families s f at ≡ cell_value N families t f at) → s ≡ t
 
-long_map : {X Y : Type 0} (g : X → Y) (xs : List X) → length (map g xs) ≡ length xs
+pub long_map : {X Y : Type 0} (g : X → Y) (xs : List X) → length (map g xs) ≡ length xs
 long_map g [] = refl
 long_map g (y ∷ ys) = ap suc (long_map g ys)
 

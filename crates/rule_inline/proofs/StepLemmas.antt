@@ -71,7 +71,7 @@ update_is first (e ∷ cs) change f (suc i) d at found = go (update_is (suc firs
 
 -- the keys of families have no nodes
 
-fixed_no : (at : List Value) → NoNodes (map fixed at)
+pub fixed_no : (at : List Value) → NoNodes (map fixed at)
 fixed_no [] = tt
 fixed_no (v.Undefined ∷ at) = (refl, fixed_no at)
 fixed_no (v.Truth b ∷ at) = (refl, fixed_no at)
