@@ -16,3 +16,6 @@ pub mod SetLemmas
 pub mod MayEquations
 pub mod ReadLemmas
 pub mod EvaluateLemmas
+pub mod MakingLemmas
+pub mod ListLemmas
+pub mod PlaceLemmas

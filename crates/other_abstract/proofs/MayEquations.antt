@@ -10,16 +10,14 @@ use Rattle.term_core.specs.declared.term.Term.{Term, Row_of-Term, end_of-Term, m
 use Rattle.term_core.specs.declared.term.Term.TheBlock.{hidden-the_row-Term-0, shape-the_row-Term-1, hidden-the_row-Term-1}
 use Rattle.term_core.specs.Values as values
 use Rattle.other_abstract.specs.declared.node.AbsNode.{AbsNode}
-use Rattle.other_abstract.specs.declared.node.AbsNode.TheVariants.{Kept, Fired, Other}
+use Rattle.other_abstract.specs.declared.node.AbsNode.TheVariants.{Other}
 use Rattle.other_abstract.specs.declared.value.AbsValue.{AbsValue}
-use Rattle.other_abstract.specs.declared.value.AbsValue.TheVariants.{Undefined, Truth, Number, Member, Node}
+use Rattle.other_abstract.specs.declared.value.AbsValue.TheVariants.{Truth, Number}
 use Rattle.other_abstract.specs.declared.lead.Lead.{Lead}
-use Rattle.other_abstract.specs.declared.lead.Lead.TheVariants.{At, Anywhere, Nowhere}
 use Rattle.other_abstract.specs.Windows.{Window, truth, number, constant}
 use Rattle.other_abstract.specs.May.{AbsCells, bound, led_to}
 use Rattle.other_abstract.specs.Tests.{window_nodes, passes, read_passes, same_passes, either_way, may, may_lead, may_each, may_some}
-use Rattle.other_abstract.specs.Lists.{list_lead, led_by, led_after, AreValues, AreLeads}
-use Rattle.other_abstract.proofs.TestLemmas.{any_append}
+use Rattle.other_abstract.specs.Lists.{list_lead, AreValues, AreLeads}
 
 pub fun_ext : {A B : Type 0} {f g : A → B} → ((x : A) → f x ≡ g x) → f ≡ g
 fun_ext h = λ i x. h x i

@@ -1,21 +1,15 @@
 -- Places of cells, and what reads give.
-use Rattle.std.proofs.Common.{◌≡◌, ℕ, zero, suc, ◌+◌, ◌-◌, ◌*◌, ◌^◌, ◌<◌, ◌≤◌, Bool, true, false, not, ◌&&◌, ◌||◌, cond, List, [], ◌∷◌, ◌++◌, length, map, drop, get_or, Option, Some, None, refl, sym, ap, ◌∙◌, subst, arith}
-use Rattle.std.specs.Prelude.{nat_eq, nat_le, nat_lt, ℤ, pos, negsuc, ◌+ℤ◌, ◌-ℤ◌, ◌≤ℤ◌, ◌<ℤ◌, unsigned_abs, min, slice_get, unwrap_or, SomeIff, IsTrue}
-use Rattle.std.specs.List.{list_all, list_any, All}
-use Rattle.std.specs.Option.{option_map_or}
+use Rattle.std.proofs.Common.{◌≡◌, ℕ, zero, suc, ◌+◌, ◌-◌, ◌*◌, ◌^◌, ◌<◌, ◌≤◌, Bool, true, false, cond, List, [], ◌∷◌, length, map, drop, Some, refl, sym, ap, ◌∙◌, subst, arith}
+use Rattle.std.specs.Prelude.{nat_le, ℤ, pos, negsuc, ◌+ℤ◌, ◌-ℤ◌, ◌≤ℤ◌, ◌<ℤ◌, unsigned_abs, min, slice_get, unwrap_or}
 use Rattle.std.proofs.Math.Nat.{pow-zero, pow-suc}
-use Rattle.std.proofs.lemmas.Option.{slice_get-get_or, slice_get_past}
 use Rattle.term_core.specs.declared.machine.CellFamily.{CellFamily}
-use Rattle.term_core.specs.declared.value.Sort.{Sort}
-use Rattle.term_core.specs.Nodes.{is_node, nodes_from}
-use Rattle.term_core.specs.Cells.{is_cell, first_place, choice_place, place_of, table_value}
-use Rattle.term_core.specs.Whole.{members_in_range}
+use Rattle.term_core.specs.Nodes.{nodes_from}
+use Rattle.term_core.specs.Cells.{is_cell, first_place, choice_place, place_of}
 use Rattle.other_abstract.specs.declared.node.AbsNode.{AbsNode}
-use Rattle.other_abstract.specs.declared.value.AbsValue.{AbsValue}
-use Rattle.other_abstract.specs.declared.value.AbsValue.TheVariants.{Undefined, Truth, Number, Member, Node}
+use Rattle.other_abstract.specs.declared.value.AbsValue.TheVariants.{Undefined}
 use Rattle.other_abstract.specs.Windows.{Window, size, node_number}
 use Rattle.other_abstract.specs.May.{AbsCells, value_at}
-use Rattle.other_abstract.specs.Tests.{values_of, any_values, count_of, ints_from}
+use Rattle.other_abstract.specs.Tests.{count_of, ints_from}
 use Rattle.other_abstract.specs.Lists.{choices_before}
 
 -- the families before one

@@ -1,5 +1,5 @@
 -- Sets of values: what is added to them, and what passes a test among them.
-use Rattle.std.proofs.Common.{◌≡◌, ◌⊎◌, inl, inr, ℕ, Bool, true, false, not, ◌&&◌, ◌||◌, List, [], ◌∷◌, ◌++◌, refl, sym, ap, ◌∙◌, subst, arith}
+use Rattle.std.proofs.Common.{◌≡◌, ◌⊎◌, inl, inr, Bool, true, false, not, ◌&&◌, ◌||◌, List, [], ◌∷◌, ◌++◌, refl, sym, ap, ◌∙◌, arith}
 use Rattle.std.specs.Prelude.{nat_eq, ℤ, pos, negsuc}
 use Rattle.std.specs.List.{list_any}
 use Rattle.std.proofs.lemmas.Bool.{and_parts, or_cases}
@@ -8,7 +8,7 @@ use Rattle.other_abstract.specs.declared.node.AbsNode.{AbsNode}
 use Rattle.other_abstract.specs.declared.node.AbsNode.TheVariants.{Kept, Fired, Other}
 use Rattle.other_abstract.specs.declared.value.AbsValue.{AbsValue}
 use Rattle.other_abstract.specs.declared.value.AbsValue.TheVariants.{Undefined, Truth, Number, Member, Node}
-use Rattle.other_abstract.specs.Windows.{truth, same_node, same_value, each_once}
+use Rattle.other_abstract.specs.Windows.{same_node, same_value, each_once}
 use Rattle.other_abstract.proofs.TestLemmas.{any_append, or_first, or_second, and_both}
 
 same_truth_is : (a b : Bool) → same_truth a b ≡ true → a ≡ b

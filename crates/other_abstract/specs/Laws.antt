@@ -88,6 +88,29 @@ StartsAreCovered =
     → AbsStarts M k (pattern_of M.kept c p) (image M.kept M.machine.families c (cell_value N M.machine.families
     s))
 
+-- Both of one machine.
+abbrev pub CoversSteps : AbstractMachine → Type 0
+CoversSteps M =
+    (N : ℕ) (c p : List ℕ) (s t : State) (k : ℕ)
+    → IsChoice N M.kept c
+    → length c ≡ M.kept
+    → IsState N M.machine.families s
+    → AllHold N M s
+    → Fires N M.machine s k p t
+    → AbsFires M (image M.kept M.machine.families c (cell_value N M.machine.families s)) k (pattern_of M.kept c
+    p)
+    (image M.kept M.machine.families (extended c p) (cell_value N M.machine.families s))
+    (image M.kept M.machine.families c (cell_value N M.machine.families t))
+
+abbrev pub CoversStarts : AbstractMachine → Type 0
+CoversStarts M =
+    (N : ℕ) (c p : List ℕ) (s : State) (k : ℕ)
+    → IsChoice N M.kept c
+    → length c ≡ M.kept
+    → Starts N M.machine k p s
+    → AbsStarts M k (pattern_of M.kept c p) (image M.kept M.machine.families c (cell_value N M.machine.families
+    s))
+
 -- A piece of a start that is false for chosen nodes may be false in the image.
 abbrev pub StartFaultsAreCovered : Type 0
 StartFaultsAreCovered =

@@ -5,6 +5,8 @@ pub mod Joining
 pub mod Images
 pub mod Machines
 pub mod Patterns
+pub mod Making
 pub mod Tests
+pub mod Places
 pub mod Lists
 pub mod Laws

@@ -16,3 +16,10 @@ patterns_from m fired (suc count) =
 -- the patterns of a rule or start
 abbrev pub patterns_of : ℕ → TermRule → List (List AbsNode)
 patterns_of m r = patterns_from m 0 (node_parameters r)
+
+-- the same after the nodes so far, as code goes over them
+abbrev pub patterns_after : ℕ → ℕ → ℕ → List AbsNode → List (List AbsNode)
+patterns_after m fired zero front = front ∷ []
+patterns_after m fired (suc left) front =
+    flat_map (λ k. patterns_after m fired left (front ++ Kept k ∷ [])) (nodes m)
+    ++ flat_map (λ k. patterns_after m (max fired k) left (front ++ Fired k ∷ [])) (nodes (suc fired))

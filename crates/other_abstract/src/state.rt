@@ -1,9 +1,12 @@
 //! States of windows, patterns and steps.
 
+ghost use Rattle.std.specs.Prelude.{◌≡◌, ◌≤◌, length};
+
 use crate::node::AbsNode;
 use crate::value::AbsValue;
 use smallvec::SmallVec;
 use sqlite_items::Items;
+use std::alloc::Global;
 use std::marker::Model;
 
 /// A state of a window: a value for each cell, family by family in the order of the machine's
@@ -27,6 +30,27 @@ impl Model for Pattern {
     ghost Value = { List AbsNode };
 
     ghost view = { λ p. p.nodes.items };
+}
+
+impl Pattern {
+    /// The pattern of these nodes in order. It takes no memory.
+    pub fn of(alloc: Global, nodes: &[AbsNode]) -> Pattern
+        requires { length nodes.now ≤ 3 }
+        ensures { result ≡ nodes.now }
+    {
+        let mut held: SmallVec<AbsNode, 3> = SmallVec::new(alloc);
+        for node in nodes {
+            held.push_reserved(*node);
+        }
+        Pattern { nodes: held }
+    }
+
+    /// The nodes.
+    pub fn nodes(&self) -> &[AbsNode]
+        ensures { result.now ≡ self.now }
+    {
+        self.nodes.as_slice()
+    }
 }
 
 /// A step: a rule by its number, the pattern under which it fires, the state of the window of that

@@ -1,7 +1,6 @@
-use Rattle.std.proofs.Common.{◌≡◌, Bool, not, ◌&&◌, ◌||◌, [], ◌∷◌, ◌++◌, drop}
+use Rattle.std.proofs.Common.{◌≡◌, not, ◌&&◌, ◌||◌, [], ◌∷◌, ◌++◌, drop}
 use Rattle.std.specs.List.{list_all, list_any}
-use Rattle.other_abstract.specs.declared.node.AbsNode.TheVariants.{Other}
-use Rattle.other_abstract.specs.Tests.{window_nodes, passes, may}
+use Rattle.other_abstract.specs.Tests.{passes, may}
 use Rattle.other_abstract.specs.Lists.{window_in, AreLed}
 use Rattle.other_abstract.proofs.evaluate.+evaluate.Given as goal
 
