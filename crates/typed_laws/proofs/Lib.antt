@@ -1,0 +1,10 @@
+-- Lemmas.
+mod Standing
+mod Reading
+mod Running
+mod Calling
+mod RegionLemmas
+mod Nodes
+mod RenamedValues
+mod RenamedBodies
+mod Samples

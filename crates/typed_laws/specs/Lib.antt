@@ -1,0 +1,4 @@
+-- Definitions and statements of the laws.
+pub mod Regions
+pub mod Renamings
+pub mod WorkedSamples
