@@ -19,3 +19,5 @@ pub mod EvaluateLemmas
 pub mod MakingLemmas
 pub mod ListLemmas
 pub mod PlaceLemmas
+pub mod StepLemmas
+pub mod DecidingLemmas

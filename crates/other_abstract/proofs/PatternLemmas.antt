@@ -96,10 +96,10 @@ stands_any q [] k x e h = cc
 stands_any q (y ∷ ys) zero x e h = or_first (q y) (list_any q ys) (ap q (some_is e) ∙ h)
 stands_any q (y ∷ ys) (suc k) x e h = or_second (q y) (list_any q ys) (stands_any q ys k x e h)
 
-get_contains : {X : Type 0} (xs : List X) (k : ℕ) (x : X) → slice_get xs k ≡ Some x → Contains xs x
+pub get_contains : {X : Type 0} (xs : List X) (k : ℕ) (x : X) → slice_get xs k ≡ Some x → Contains xs x
 get_contains xs k x e = (k, get_some_below xs k x e, get_or_from_slice_get xs k x x e)
 
-contains_get : {X : Type 0} (xs : List X) (x : X) → Contains xs x → (k : ℕ) × (slice_get xs k ≡ Some x)
+pub contains_get : {X : Type 0} (xs : List X) (x : X) → Contains xs x → (k : ℕ) × (slice_get xs k ≡ Some x)
 contains_get xs x (k, less, e) = (k, slice_get-get_or xs k x less ∙ ap Some e)
 
 pub pattern_listed : (m : ℕ) (r : TermRule) (p : List AbsNode) → IsPattern m r p → Contains (patterns_of m r) p
@@ -145,7 +145,7 @@ once_append {X} (x ∷ xs) ys f g apart = go (once_append xs ys (λ i j y e h. l
     go rest (suc i) zero y e h = absurd (nowhere i (e ∙ sym h))
     go rest (suc i) (suc j) y e h = ap suc (rest i j y e h)
 
-map_get : {X Y : Type 0} (g : X → Y) (xs : List X) (k : ℕ) (y : Y) → slice_get (map g xs) k ≡ Some y → (x : X) × (slice_get xs k ≡ Some x) × (g x ≡ y)
+pub map_get : {X Y : Type 0} (g : X → Y) (xs : List X) (k : ℕ) (y : Y) → slice_get (map g xs) k ≡ Some y → (x : X) × (slice_get xs k ≡ Some x) × (g x ≡ y)
 map_get g [] k y e = cc
 map_get g (x ∷ xs) zero y e = (x, refl, some_is e)
 map_get g (x ∷ xs) (suc k) y e = map_get g xs k y e

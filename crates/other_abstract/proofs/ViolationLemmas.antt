@@ -18,14 +18,14 @@ any_flat q g (x ∷ xs) = any_append q (g x) (flat_map g xs) ∙ ap (λ b. list_
 abbrev AreIn : Window → ℕ → List AbsNode → Type 0
 AreIn W count ns = (length ns ≡ count) × (list_all (is_in_window W) ns ≡ true)
 
-list_in : (W : Window) (count : ℕ) (q : List AbsNode → Bool) → list_any q (lists_of (window_nodes W) count) ≡ true → Passing (AreIn W count) q
+pub list_in : (W : Window) (count : ℕ) (q : List AbsNode → Bool) → list_any q (lists_of (window_nodes W) count) ≡ true → Passing (AreIn W count) q
 list_in W zero q h = elim (or_cases (q []) false h) [ inl e ↦ record { value = []; may = (refl, refl); passes = e } | inr e ↦ absurd cc ]
 list_in W (suc count) q h =
     let r = in_window W (λ n. list_any q (map (λ rest. n ∷ rest) (lists_of (window_nodes W) count))) (sym (any_flat q (λ n. map (λ rest. n ∷ rest) (lists_of (window_nodes W) count)) (window_nodes W)) ∙ h) in
     let s = list_in W count (λ rest. q (r.value ∷ rest)) (sym (any_map q (λ rest. r.value ∷ rest) (lists_of (window_nodes W) count)) ∙ r.passes) in
     record { value = r.value ∷ s.value; may = (ap suc s.may.0, and_both _ _ r.may s.may.1); passes = s.passes }
 
-list_has : (W : Window) (count : ℕ) (q : List AbsNode → Bool) (ns : List AbsNode) → AreIn W count ns → q ns ≡ true → list_any q (lists_of (window_nodes W) count) ≡ true
+pub list_has : (W : Window) (count : ℕ) (q : List AbsNode → Bool) (ns : List AbsNode) → AreIn W count ns → q ns ≡ true → list_any q (lists_of (window_nodes W) count) ≡ true
 list_has W zero q [] are h = or_first (q []) false h
 list_has W zero q (n ∷ ns) are h = let e : suc (length ns) ≡ 0 = are.0 in absurd (omega (arith, e))
 list_has W (suc count) q [] are h = let e : 0 ≡ suc count = are.0 in absurd (omega (arith, e))

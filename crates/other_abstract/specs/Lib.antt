@@ -8,5 +8,6 @@ pub mod Patterns
 pub mod Making
 pub mod Tests
 pub mod Places
+pub mod Stepping
 pub mod Lists
 pub mod Laws

@@ -3,6 +3,7 @@
 #![tactic(auto)]
 
 pub mod combine;
+mod deciding;
 pub mod evaluate;
 pub mod laws;
 pub mod lead;
@@ -15,5 +16,7 @@ mod places;
 pub mod read;
 pub mod scene;
 pub mod set;
+mod starting;
 pub mod state;
+mod stepping;
 pub mod value;
