@@ -1,0 +1,4 @@
+-- Lemmas.
+pub mod ScopeLemmas
+pub mod PartLemmas
+pub mod ExprEquations
