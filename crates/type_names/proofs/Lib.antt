@@ -2,3 +2,4 @@
 pub mod ScopeLemmas
 pub mod PartLemmas
 pub mod ExprEquations
+pub mod BodyEquations

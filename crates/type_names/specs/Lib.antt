@@ -2,4 +2,5 @@
 pub mod Scoping
 pub mod Parts
 pub mod Gathering
+pub mod Bodies
 pub mod Laws

@@ -5,3 +5,4 @@ pub mod expressions;
 pub mod gathered;
 pub mod laws;
 pub mod scope;
+pub mod statements;
