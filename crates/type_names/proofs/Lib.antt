@@ -1,0 +1,5 @@
+-- Lemmas.
+pub mod ScopeLemmas
+pub mod PartLemmas
+pub mod ExprEquations
+pub mod BodyEquations
