@@ -36,19 +36,19 @@ use Rattle.rule_inline.proofs.TieLemmas.{GiftTies, Tie, tie_value, tie_node, pla
 
 -- designators that are written have a type
 
-cell_some : (into : Simple) (o : Option AnyType) → is_cell_of into o ≡ true → is_some o ≡ true
+pub cell_some : (into : Simple) (o : Option AnyType) → is_cell_of into o ≡ true → is_some o ≡ true
 cell_some into None e = absurd_false e
 cell_some into (Some U) e = refl
 
-alike_some : (o p : Option AnyType) → are_alike o p ≡ true → is_some o ≡ true
+pub alike_some : (o p : Option AnyType) → are_alike o p ≡ true → is_some o ≡ true
 alike_some None p e = absurd_false e
 alike_some (Some U) p e = refl
 
-type_some : (of : AnyType) (o : Option AnyType) → option_map_or (same_type of) o false ≡ true → is_some o ≡ true
+pub type_some : (of : AnyType) (o : Option AnyType) → option_map_or (same_type of) o false ≡ true → is_some o ≡ true
 type_some of None e = absurd_false e
 type_some of (Some U) e = refl
 
-procedure_there : (ts : Typing) (k : ℕ) (args : Arguments) → option_map_or (λ r. not (is_some r.result) && arguments_fit ts r.formals args) (slice_get ts.routines k) false ≡ true → (r : Routine) × ((slice_get ts.routines k ≡ Some r) × (arguments_fit ts r.formals args ≡ true))
+pub procedure_there : (ts : Typing) (k : ℕ) (args : Arguments) → option_map_or (λ r. not (is_some r.result) && arguments_fit ts r.formals args) (slice_get ts.routines k) false ≡ true → (r : Routine) × ((slice_get ts.routines k ≡ Some r) × (arguments_fit ts r.formals args ≡ true))
 procedure_there ts k args e = go (slice_get ts.routines k) refl e
   where
     go : (o : Option Routine) → slice_get ts.routines k ≡ o → option_map_or (λ r. not (is_some r.result) && arguments_fit ts r.formals args) o false ≡ true → (r : Routine) × ((slice_get ts.routines k ≡ Some r) × (arguments_fit ts r.formals args ≡ true))
