@@ -1,5 +1,5 @@
 -- Well-typed statements and routines have fine terms and demands.
-use Rattle.std.proofs.Common.{◌≡◌, ℕ, zero, suc, ◌+◌, ◌≤◌, Bool, true, false, not, ◌&&◌, List, [], ◌∷◌, ◌++◌, length, reverse, Option, None, Some, refl, sym, ap, ◌∙◌, subst, arith}
+use Rattle.std.proofs.Common.{◌≡◌, ℕ, zero, suc, ◌+◌, Bool, true, false, not, ◌&&◌, List, [], ◌∷◌, ◌++◌, length, reverse, Option, None, Some, refl, subst, arith}
 use Rattle.std.specs.Prelude.{nat_eq, slice_get, is_some, if◌then◌else◌}
 use Rattle.std.specs.List.{list_all}
 use Rattle.std.specs.Option.{option_map_or}
@@ -23,22 +23,21 @@ use Rattle.murphi_typed.specs.declared.protocol.Routine.{Routine}
 use Rattle.murphi_typed.specs.declared.protocol.Typed.{Typed}
 use Rattle.murphi_typed.specs.Values.{cleared_value}
 use Rattle.murphi_typed.specs.Families.{leaf_at}
-use Rattle.murphi_typed.specs.Store.{Owner, Global, Local, Formal}
+use Rattle.murphi_typed.specs.Store.{Global, Local, Formal}
 use Rattle.murphi_typed.specs.Execution.{simple_type}
-use Rattle.murphi_typed.specs.WellTyped.{Scope as Typing, Exit, AtEnd, ByReturn, WithValue, binding as typing_inside, widened, comparable, simple_part, same_type, is_type, is_simple_type, is_of, is_cell_of, holds_values_of, are_alike, may_write, root_of, is_function, returns, arguments_fit, type_of, place_type, labels_fit, stmt_fits, body_fits, arms_fit, cases_fit, routine_scope}
+use Rattle.murphi_typed.specs.WellTyped.{Scope as Typing, Exit, AtEnd, ByReturn, WithValue, binding as typing_inside, comparable, same_type, is_type, is_simple_type, is_of, is_cell_of, holds_values_of, are_alike, may_write, root_of, is_function, returns, arguments_fit, type_of, place_type, labels_fit, stmt_fits, body_fits, arms_fit, cases_fit, routine_scope}
 use Rattle.murphi_typed.specs.Keeping.{LatestFit}
-use Rattle.rule_inline.specs.Demands.{Demand, demand, truth_term, under_test, unless_left, binding}
-use Rattle.rule_inline.specs.Tables.{holes, Slot, Family, Leaving, Result, Terms, Change, unchanged, under_variable, axes, only_term, shown_at, read_of}
-use Rattle.rule_inline.specs.Parts.{Given as Gift, Filled, Standing, Site, with_value, with_variable, Valued, Calls as TermCalls, Done, fixed_values, undefined, stored_fits, valued_of, placed_of, argued_of}
+use Rattle.rule_inline.specs.Demands.{Demand, under_test}
+use Rattle.rule_inline.specs.Tables.{holes, Slot, Family, Leaving, Result, Terms, under_variable, axes}
+use Rattle.rule_inline.specs.Parts.{Given as Gift, Filled, Standing, Site, with_value, with_variable, Valued, Calls as TermCalls, Done, fixed_values, undefined, valued_of, placed_of, argued_of}
 use Rattle.rule_inline.specs.Bodies.{reached, cleared, all_undefined, left_body, left_with, result_stored, Branching, Labels, labels_of, one_of_labels, among, turns, taken, given_terms, entered, formal_fits, formals_fit, back, back_first, came_back, called, called_site, done_by, all_done, arms_done, cases_done, calls_in}
 use Rattle.rule_inline.proofs.ValueLemmas.{absurd_false}
 use Rattle.rule_inline.proofs.TypeLemmas.{not_some, some_one, fixed_no_nodes}
-use Rattle.rule_inline.proofs.PlaceLemmas.{NoNodes}
 use Rattle.rule_inline.proofs.FunctionLoops.{body_fits_in}
 use Rattle.rule_inline.proofs.FirstWrites.{cell_some, alike_some, type_some, procedure_there}
 use Rattle.rule_inline.proofs.FineLemmas.{Fine, AllFine, fine_more, fine-Known, fine-Not, fine-Or, fine-Same}
 use Rattle.rule_inline.proofs.PlaceFine.{DemandsFine, demands_joined, one_demand, under_fine, unless_fine, binding_fine, truth_fine, NoNodeIn, TermsFine, ShownFine, terms_under, shown_fine, read_of_fine, only_fine, FirstFits, ChangeFine, unchanged_fine, then_fine, left_fine, written_fine, BranchesFine, chosen_fine, returned_fine, loop_fine}
-use Rattle.rule_inline.proofs.PartFine.{some_of, some_mapped, some_simple, compared_some, ValuedFine, DoneFine, PlacedFine, GiftFine, GiftsFine, gifts_stand, SiteFine, site_value, site_node, stored_fine, CallsFine, value_fine, place_fine, arguments_fine}
+use Rattle.rule_inline.proofs.PartFine.{some_of, compared_some, ValuedFine, DoneFine, GiftFine, GiftsFine, gifts_stand, SiteFine, site_value, site_node, stored_fine, CallsFine, value_fine, place_fine, arguments_fine}
 
 values_some : (into : Simple) (o : Option AnyType) → holds_values_of into o ≡ true → is_some o ≡ true
 values_some into None e = absurd_false e

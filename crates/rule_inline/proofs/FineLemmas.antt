@@ -1,12 +1,11 @@
 -- Terms whose free variables are below a number and that read cells of the families alone, with no node as a constant:
 -- so are the terms that are made of them.
 use denote.Hole.Carrier.{hidden}
-use Rattle.std.proofs.Common.{◌≡◌, ℕ, zero, suc, ◌+◌, ◌-◌, ◌<◌, ◌≤◌, Bool, true, false, ◌&&◌, List, [], ◌∷◌, ◌++◌, length, map, Option, None, Some, refl, sym, ap, ◌∙◌, subst, arith}
-use Rattle.std.specs.Prelude.{max, nat_lt, nat_eq, slice_get, if◌then◌else◌}
+use Rattle.std.proofs.Common.{◌≡◌, ℕ, zero, suc, ◌+◌, ◌-◌, ◌<◌, ◌≤◌, Bool, true, false, ◌&&◌, List, [], ◌∷◌, ◌++◌, length, None, Some, refl, sym, ap, ◌∙◌, subst, arith}
+use Rattle.std.specs.Prelude.{nat_lt, slice_get, if◌then◌else◌}
 use Rattle.std.specs.Option.{option_map_or}
 use Rattle.std.proofs.lemmas.Bool.{and_parts}
 use Rattle.term_core.specs.declared.value.Value.{Value}
-use Rattle.term_core.specs.declared.value.Value.TheVariants as v
 use Rattle.term_core.specs.declared.value.ArithOp.{ArithOp}
 use Rattle.term_core.specs.declared.machine.CellFamily.{CellFamily}
 use Rattle.term_core.specs.declared.term.Term as t
@@ -17,7 +16,6 @@ use Rattle.term_core.specs.Variables.{free_variables, row_variables, is_no_node,
 use Rattle.term_core.specs.Substitution.{replaced, row_replaced, lifted_variable, lifted, placed_variable, placed}
 use Rattle.rule_inline.specs.Tables.{is_comparison, dropped, row_dropped, row_without}
 use Rattle.rule_inline.proofs.TermLemmas.{and_of}
-use Rattle.rule_inline.proofs.TypeLemmas.{not_some, some_one}
 
 module _ (families : List CellFamily) where
   abbrev pub Fine : ℕ → Term → Type 0

@@ -1,6 +1,6 @@
 -- The marks with which a body writes a family first are those of one of the writes that the symmetry rules judge.
-use Rattle.std.proofs.Common.{◌≡◌, ℕ, zero, suc, ◌<◌, ◌≤◌, Bool, true, false, not, ◌&&◌, List, [], ◌∷◌, ◌++◌, length, reverse, Option, None, Some, ◌⊎◌, inl, inr, refl, sym, ap, ◌∙◌, subst, arith}
-use Rattle.std.specs.Prelude.{slice_get, nat_eq, option_map, option_and_then, is_some, if◌then◌else◌}
+use Rattle.std.proofs.Common.{◌≡◌, ℕ, suc, ◌<◌, ◌≤◌, Bool, true, false, not, ◌&&◌, List, [], ◌∷◌, ◌++◌, length, reverse, Option, None, Some, ◌⊎◌, inl, inr, refl, sym, ap, ◌∙◌, subst, arith}
+use Rattle.std.specs.Prelude.{slice_get, nat_eq, option_and_then, is_some, if◌then◌else◌}
 use Rattle.std.specs.Option.{option_map_or}
 use Rattle.std.specs.List.{flat_map}
 use Rattle.std.proofs.lemmas.Bool.{and_parts}
@@ -10,7 +10,6 @@ use Rattle.murphi_typed.specs.declared.types.Simple.{Simple}
 use Rattle.murphi_typed.specs.declared.types.Simple.TheVariants as simple
 use Rattle.murphi_typed.specs.declared.types.AnyType as type
 use Rattle.murphi_typed.specs.declared.types.AnyType.{AnyType}
-use Rattle.murphi_typed.specs.declared.expr.Expr.{Expr}
 use Rattle.murphi_typed.specs.declared.expr.Designator as d
 use Rattle.murphi_typed.specs.declared.expr.Designator.{Designator}
 use Rattle.murphi_typed.specs.declared.expr.Arguments.{Arguments}
@@ -18,14 +17,14 @@ use Rattle.murphi_typed.specs.declared.stmt.Stmt as st
 use Rattle.murphi_typed.specs.declared.stmt.Stmt.{Stmt, Row_of-Stmt, end_of-Stmt, more_of-Stmt, Row_of-Arm, end_of-Arm, more_of-Arm, Row_of-Case, end_of-Case, more_of-Case}
 use Rattle.murphi_typed.specs.declared.protocol.Routine.{Routine}
 use Rattle.murphi_typed.specs.declared.protocol.Typed.{Typed}
-use Rattle.murphi_typed.specs.WellTyped.{Scope as Typing, binding as typing_inside, simple_part, formal_type, same_simple, same_type, is_of, is_type, is_simple_type, is_cell_of, holds_values_of, are_alike, may_write, root_of, is_function, arguments_fit, type_of, place_type, labels_fit, stmt_fits, body_fits, arms_fit, cases_fit, routine_scope}
+use Rattle.murphi_typed.specs.WellTyped.{Scope as Typing, binding as typing_inside, formal_type, same_type, is_of, is_type, is_simple_type, is_cell_of, holds_values_of, are_alike, may_write, root_of, is_function, arguments_fit, type_of, place_type, labels_fit, stmt_fits, body_fits, arms_fit, cases_fit, routine_scope}
 use Rattle.murphi_typed.specs.Keeping.{LatestFit}
 use Rattle.scalarset_rules.specs.declared.shape.Binder.{Binder}
-use Rattle.scalarset_rules.specs.Accesses.{Stand, Scope, binding, called as called_scope, stand_mark, shape_of, stands_of, Access, accessed, from_call, Opened, reads, index_reads, argument_reads, accesses, all_accesses, arm_accesses, case_accesses, opened_in}
+use Rattle.scalarset_rules.specs.Accesses.{Stand, Scope, binding, called as called_scope, stand_mark, shape_of, stands_of, Access, accessed, from_call, Opened, reads, argument_reads, accesses, all_accesses, arm_accesses, case_accesses, opened_in}
 use Rattle.scalarset_rules.specs.Rules.{is_it}
 use Rattle.rule_inline.specs.Demands.{is_constant_false}
-use Rattle.rule_inline.specs.Tables.{Slot, Family, Leaving, Result, Terms, Marks, Change, or_else, under_variable, Shown, written, first_of_branches, kept_if_left, own_axis}
-use Rattle.rule_inline.specs.Parts.{Given as Gift, Site, with_value, with_variable, Calls as TermCalls, Done, fixed_values, valued_of, placed_of, argued_of}
+use Rattle.rule_inline.specs.Tables.{Slot, Family, Leaving, Result, Terms, Marks, or_else, under_variable, Shown, written, first_of_branches, kept_if_left, own_axis}
+use Rattle.rule_inline.specs.Parts.{Given as Gift, Site, with_value, with_variable, Calls as TermCalls, Done, fixed_values, valued_of, argued_of}
 use Rattle.rule_inline.specs.Bodies.{taken, turns, done_by, all_done, arms_done, cases_done, called, called_site, calls_in}
 use Rattle.rule_inline.proofs.ValueLemmas.{absurd_false}
 use Rattle.rule_inline.proofs.TypeLemmas.{not_some, some_one}

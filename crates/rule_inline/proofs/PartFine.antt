@@ -1,6 +1,6 @@
 -- Well-typed expressions, designators and arguments have fine terms and demands.
-use Rattle.std.proofs.Common.{◌≡◌, ℕ, zero, suc, ◌+◌, ◌≤◌, Bool, true, false, not, ◌&&◌, List, [], ◌∷◌, ◌++◌, length, map, Option, None, Some, refl, sym, ap, ◌∙◌, subst, arith}
-use Rattle.std.specs.Prelude.{slice_get, option_map, option_and_then, unwrap_or, is_some, if◌then◌else◌}
+use Rattle.std.proofs.Common.{◌≡◌, ℕ, zero, suc, ◌+◌, Bool, true, false, not, ◌&&◌, List, [], ◌∷◌, map, Option, None, Some, refl, sym, ◌∙◌, arith}
+use Rattle.std.specs.Prelude.{slice_get, option_map, option_and_then, is_some, if◌then◌else◌}
 use Rattle.std.specs.List.{list_all}
 use Rattle.std.specs.Option.{option_map_or}
 use Rattle.std.proofs.lemmas.Bool.{and_parts}
@@ -34,12 +34,12 @@ use Rattle.murphi_typed.specs.declared.protocol.Formal.{Formal as DeclaredFormal
 use Rattle.murphi_typed.specs.declared.protocol.Routine.{Routine}
 use Rattle.murphi_typed.specs.Forms.{NotForm, MinusForm, CompareForm, ImpliesForm, ChoiceForm, QuantifiedForm}
 use Rattle.murphi_typed.specs.Prefix.{is_over_nodes}
-use Rattle.murphi_typed.specs.WellTyped.{Scope as Typing, binding as typing_inside, widened, numbers, same_simple, operand_type, comparable, simple_part, item_part, field_part, root_type, known_type, enum_type, is_simple_type, is_of, only_if, may_write, root_of, is_compound, given_value, given_place, given_compound, first_of, rest_of, type_of, chain_type, place_type, selected_type, arguments_fit, row_fits, argument_fits}
-use Rattle.rule_inline.specs.Demands.{Demand, demand, under_test, binding}
-use Rattle.rule_inline.specs.Tables.{Slot, Family, Leaving, Result, Terms, Change, under_variable, Index, Axis, Among, Spot, lifted_spot, read_of, shown_at, only_term}
-use Rattle.rule_inline.specs.Parts.{Given as Gift, Filled, Standing, Site, lifted_given, with_value, with_variable, Valued, Placed, Indexed, Argued, Done, Calls as TermCalls, fixed_values, undefined, is_defined, at_most, bounds, index_fits, range_fits, stored_fits, whole, lowest, highest, minus_one, product_fits, result_fits, calculated, joined, compared, compared_values, over_values, demands_of, terms_of, bound_term, place_mark, mark_of, whole_spot, stood_for, root_spot, index_over, one_index, valued_of, chain_of, placed_of, indices_of, argued_of, row_argued, one_argued}
+use Rattle.murphi_typed.specs.WellTyped.{Scope as Typing, binding as typing_inside, widened, numbers, operand_type, comparable, simple_part, item_part, field_part, root_type, known_type, is_simple_type, is_of, only_if, may_write, root_of, is_compound, given_value, given_place, given_compound, first_of, rest_of, type_of, chain_type, place_type, selected_type, arguments_fit, row_fits, argument_fits}
+use Rattle.rule_inline.specs.Demands.{demand, under_test}
+use Rattle.rule_inline.specs.Tables.{Leaving, Result, Terms, under_variable, Axis, Among, Spot}
+use Rattle.rule_inline.specs.Parts.{Given as Gift, Filled, Standing, Site, lifted_given, with_value, with_variable, Valued, Placed, Indexed, Argued, Done, Calls as TermCalls, fixed_values, undefined, is_defined, at_most, bounds, index_fits, range_fits, stored_fits, whole, lowest, highest, minus_one, product_fits, result_fits, calculated, joined, compared, over_values, demands_of, terms_of, bound_term, mark_of, whole_spot, stood_for, root_spot, one_index, valued_of, chain_of, placed_of, indices_of, argued_of, row_argued, one_argued}
 use Rattle.rule_inline.proofs.ValueLemmas.{absurd_false}
-use Rattle.rule_inline.proofs.TypeLemmas.{not_some, some_one, fixed_no_nodes}
+use Rattle.rule_inline.proofs.TypeLemmas.{fixed_no_nodes}
 use Rattle.rule_inline.proofs.TieLemmas.{only_is}
 use Rattle.rule_inline.proofs.StandLemmas.{one_term}
 use Rattle.rule_inline.proofs.FineLemmas.{Fine, AllFine, fine_more, fine-Known, fine-Var, fine-Not, fine-And, fine-Or, fine-If, fine-Same, fine-Less, fine-Arith, fine-Quantified}

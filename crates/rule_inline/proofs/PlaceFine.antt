@@ -1,6 +1,6 @@
 -- Demands, tables of terms and writes whose terms are fine: all free variables are bound and all reads are of cells.
-use Rattle.std.proofs.Common.{◌≡◌, ℕ, zero, suc, ◌+◌, ◌<◌, ◌≤◌, Bool, true, false, ◌&&◌, List, [], ◌∷◌, ◌++◌, length, map, Option, None, Some, ◌⊎◌, inl, inr, refl, sym, ap, ◌∙◌, subst, arith}
-use Rattle.std.specs.Prelude.{nat_eq, slice_get, option_map, option_and_then, unwrap_or, is_some, if◌then◌else◌}
+use Rattle.std.proofs.Common.{◌≡◌, ℕ, zero, suc, ◌+◌, ◌<◌, ◌≤◌, Bool, true, false, List, [], ◌∷◌, ◌++◌, length, map, Option, None, Some, ◌⊎◌, inl, inr, refl, sym, ap, ◌∙◌, subst, arith}
+use Rattle.std.specs.Prelude.{nat_eq, option_map, option_and_then, unwrap_or, is_some, if◌then◌else◌}
 use Rattle.std.specs.List.{flat_map, list_all}
 use Rattle.std.specs.Option.{option_map_or}
 use Rattle.std.specs.Str.{bytes_eq}
@@ -11,14 +11,12 @@ use Rattle.term_core.specs.declared.value.Value.TheVariants as v
 use Rattle.term_core.specs.declared.machine.CellFamily.{CellFamily}
 use Rattle.term_core.specs.declared.term.Term as t
 use Rattle.term_core.specs.declared.term.Term.{Term}
-use Rattle.term_core.specs.Nodes.{nodes_from}
 use Rattle.term_core.specs.Variables.{is_no_node}
-use Rattle.term_core.specs.Substitution.{lifted, placed}
+use Rattle.term_core.specs.Substitution.{lifted}
 use Rattle.murphi_typed.specs.Families.{Path}
 use Rattle.murphi_typed.specs.Store.{same_owner, beyond}
-use Rattle.rule_inline.specs.Demands.{Demand, demand, one_under, under_test, is_constant_false, one_unless, unless_left, one_binding, binding, negated, path_of, body_of, truth_term}
-use Rattle.rule_inline.specs.Tables.{Key, holes, Slot, Family, Leaving, Result, axes, Terms, Marks, Change, unchanged, or_else, and_then, renewed_by, variables, lifted_all, under_variable, Index, Axis, Among, Spot, marks_of, lifted_index, Entry, with_axis, with_value, entries, read_at, tested, chain_of, Shown, shown_at, read_of, only_term, Match, on_axis, on_value, matched, renewed_term, new_terms, written, Branch, writes, branch_chain, first_of_branches, chosen, kept_if_left, unless_returned, dropped, closed, axis_in, own_axis, over_nodes}
-use Rattle.rule_inline.proofs.ValueLemmas.{absurd_false}
+use Rattle.rule_inline.specs.Demands.{Demand, demand, under_test, is_constant_false, one_unless, unless_left, binding, negated, path_of, body_of, truth_term}
+use Rattle.rule_inline.specs.Tables.{Key, holes, Slot, Family, Leaving, Result, axes, Terms, Marks, Change, unchanged, and_then, renewed_by, variables, lifted_all, under_variable, Index, Axis, Among, Spot, marks_of, lifted_index, Entry, with_axis, with_value, entries, read_at, tested, chain_of, Shown, shown_at, read_of, only_term, Match, on_axis, on_value, matched, renewed_term, new_terms, written, Branch, writes, branch_chain, first_of_branches, chosen, kept_if_left, unless_returned, dropped, closed, axis_in, own_axis, over_nodes}
 use Rattle.rule_inline.proofs.TypeLemmas.{not_some, some_one}
 use Rattle.rule_inline.proofs.PlaceLemmas.{NoNodes, no_nodes_joined, holes_joined}
 use Rattle.rule_inline.proofs.MarkLemmas.{mapped_some, either_some}

@@ -1,5 +1,5 @@
 -- The machine of a well-typed protocol that keeps the symmetry rules presents it.
-use Rattle.std.proofs.Common.{◌≡◌, ℕ, zero, suc, ◌+◌, ◌≤◌, Bool, true, false, ◌&&◌, List, [], ◌∷◌, ◌++◌, length, map, reverse, Option, None, Some, ◌⊎◌, inl, inr, refl, sym, ap, ◌∙◌, subst, arith}
+use Rattle.std.proofs.Common.{◌≡◌, ℕ, zero, suc, ◌+◌, Bool, true, false, ◌&&◌, List, [], ◌∷◌, ◌++◌, length, map, reverse, None, Some, ◌⊎◌, inl, inr, refl, sym, ap, ◌∙◌, subst, arith}
 use Rattle.std.specs.Prelude.{slice_get, count_by, cond, IsTrue}
 use Rattle.std.specs.List.{flat_map, list_all}
 use Rattle.std.proofs.lemmas.Bool.{and_parts}
@@ -11,9 +11,8 @@ use Rattle.term_core.specs.Nodes.{is_node}
 use Rattle.term_core.specs.Meaning.{Cells}
 use Rattle.term_core.specs.Variables.{is_no_node}
 use Rattle.term_core.specs.Cells.{cell_value, blank_state}
-use Rattle.term_core.specs.Firing.{is_node_value, IsChoice}
+use Rattle.term_core.specs.Firing.{is_node_value}
 use Rattle.term_core.specs.Laws.{PlacingBinds}
-use Rattle.murphi_typed.specs.declared.protocol.NodeType.{NodeType}
 use Rattle.murphi_typed.specs.declared.protocol.Parameter.{Parameter}
 use Rattle.murphi_typed.specs.declared.protocol.Routine.{Routine}
 use Rattle.murphi_typed.specs.declared.protocol.Rule.{Rule}

@@ -1,19 +1,17 @@
 -- The machine of a well-typed protocol is whole.
-use Rattle.std.proofs.Common.{◌≡◌, ℕ, zero, suc, ◌+◌, ◌<◌, ◌≤◌, Bool, true, false, not, ◌&&◌, List, [], ◌∷◌, ◌++◌, length, map, reverse, Option, None, Some, refl, sym, ap, ◌∙◌, subst, arith}
-use Rattle.std.specs.Prelude.{max, nat_eq, nat_le, nat_lt, slice_get, unwrap_or, count_by, if◌then◌else◌, IsTrue}
+use Rattle.std.proofs.Common.{◌≡◌, ℕ, zero, suc, ◌+◌, ◌<◌, ◌≤◌, Bool, true, false, ◌&&◌, List, [], ◌∷◌, ◌++◌, length, map, reverse, Option, None, Some, refl, sym, ap, ◌∙◌, subst, arith}
+use Rattle.std.specs.Prelude.{max, nat_eq, nat_le, nat_lt, slice_get, unwrap_or, if◌then◌else◌, IsTrue}
 use Rattle.std.specs.List.{All, AllByRecursion, IsDistinct, flat_map, list_all}
 use Rattle.std.specs.Option.{option_map_or}
 use Rattle.std.proofs.lemmas.Bool.{and_parts}
 use Rattle.std.proofs.lemmas.Map.Keys.{IsDistinct-cons}
-use Rattle.term_core.specs.declared.value.Value.{Value}
 use Rattle.term_core.specs.declared.value.Value.TheVariants as v
 use Rattle.term_core.specs.declared.machine.CellFamily.{CellFamily}
 use Rattle.term_core.specs.declared.machine.Piece.{Piece}
 use Rattle.term_core.specs.declared.machine.Update.{Update}
 use Rattle.term_core.specs.declared.machine.TermRule.{TermRule}
-use Rattle.term_core.specs.declared.term.Term.{Term}
 use Rattle.term_core.specs.Variables.{free_variables, fits, has_axes}
-use Rattle.term_core.specs.Firing.{is_node_value, node_parameters}
+use Rattle.term_core.specs.Firing.{node_parameters}
 use Rattle.term_core.specs.Whole.{UpdatesOnce, IsWithinPrefix, axes_of, BindsVariables, HasBlank, LeavesDefined, ReadsCells, members_in_range, IsWhole}
 use Rattle.murphi_typed.specs.declared.types.Kind.{Kind}
 use Rattle.murphi_typed.specs.declared.types.Simple.{Simple}
@@ -22,7 +20,6 @@ use Rattle.murphi_typed.specs.declared.types.AnyType as type
 use Rattle.murphi_typed.specs.declared.types.AnyType.{AnyType, Row_of-Field, end_of-Field, more_of-Field}
 use Rattle.murphi_typed.specs.declared.protocol.Guard.{Guard}
 use Rattle.murphi_typed.specs.declared.protocol.Parameter.{Parameter}
-use Rattle.murphi_typed.specs.declared.protocol.Routine.{Routine}
 use Rattle.murphi_typed.specs.declared.protocol.Rule.{Rule}
 use Rattle.murphi_typed.specs.declared.protocol.Start.{Start}
 use Rattle.murphi_typed.specs.declared.protocol.Typed.{Typed}
@@ -30,19 +27,18 @@ use Rattle.murphi_typed.specs.declared.protocol.Variable.{Variable}
 use Rattle.murphi_typed.specs.declared.stmt.Stmt.{Stmt}
 use Rattle.murphi_typed.specs.Forms.{ArrayForm}
 use Rattle.murphi_typed.specs.Values.{sort_of}
-use Rattle.murphi_typed.specs.Families.{Path, Into, Over, Way, one_more, ways, row_ways, axes_of as step_axes, choices, Cell, cells_on, cells_from, cells}
-use Rattle.murphi_typed.specs.Store.{Owner}
+use Rattle.murphi_typed.specs.Families.{Into, Over, Way, one_more, ways, row_ways, axes_of as step_axes, choices, Cell, cells_on, cells_from, cells}
 use Rattle.murphi_typed.specs.Prefix.{node_parameters as node_params, guard_depth, stmt_depth, routine_depths, rule_prefix}
-use Rattle.murphi_typed.specs.WellTyped.{row_field, is_listed, is_scalarset, is_type, are_fields, is_simple_type, is_of, type_of, top_scope, guard_fits, stmt_fits, is_well_typed, are_variables, are_parameter_types, rule_fits, routines_fit, start_fits, formula_fits}
+use Rattle.murphi_typed.specs.WellTyped.{is_listed, is_scalarset, is_type, are_fields, is_simple_type, type_of, top_scope, guard_fits, stmt_fits, is_well_typed, are_variables, are_parameter_types, rule_fits, routines_fit, start_fits, formula_fits}
 use Rattle.murphi_typed.specs.Keeping.{LatestFit}
 use Rattle.murphi_typed.specs.Laws.{BlankBodiesAreTyped}
 use Rattle.rule_inline.specs.Demands.{Demand, under_test, piece_of, truth_term}
-use Rattle.rule_inline.specs.Tables.{Key, holes, Slot, Family, Leaving, Result, axes, Change, variables, writes}
-use Rattle.rule_inline.specs.Parts.{Valued, Done, undefined, valued_of}
+use Rattle.rule_inline.specs.Tables.{Key, holes, Family, Leaving, Result, Change, variables, writes}
+use Rattle.rule_inline.specs.Parts.{Valued, Done, undefined}
 use Rattle.rule_inline.specs.Laws.{RuleWithin, StartWithin, IsWithin, TranslationIsWhole}
-use Rattle.rule_inline.specs.Machine.{fixed, CellsOf, family_of, families_of, slot_of, number_of, cell_family, own_read, first_terms, instances, parameter_terms, marked_values, top_site, top_terms, calls_of, guard_of, body_done, or_true, pieces_of, updates_from, updates_of, instance_of, rule_at, start_at, rules_of, starts_of, trans}
-use Rattle.rule_inline.proofs.ValueLemmas.{absurd_false, nat_itself}
-use Rattle.rule_inline.proofs.TypeLemmas.{not_some, some_one}
+use Rattle.rule_inline.specs.Machine.{CellsOf, family_of, families_of, slot_of, number_of, cell_family, own_read, first_terms, instances, parameter_terms, top_site, top_terms, calls_of, guard_of, body_done, or_true, updates_from, instance_of, rule_at, start_at, rules_of, starts_of, trans}
+use Rattle.rule_inline.proofs.ValueLemmas.{nat_itself}
+use Rattle.rule_inline.proofs.TypeLemmas.{not_some}
 use Rattle.rule_inline.proofs.PlaceLemmas.{NoNodes}
 use Rattle.rule_inline.proofs.PrefixLemmas.{Within, more_within, both_within, under_within, value_within, stmt_within, calls_within}
 use Rattle.rule_inline.proofs.FormulaPrefix.{instance_holes}
@@ -50,8 +46,8 @@ use Rattle.rule_inline.proofs.FirstTerms.{Each, each_of, each_weaker, each_joine
 use Rattle.rule_inline.proofs.StepLemmas.{each_at, each_found, key_no_nodes}
 use Rattle.rule_inline.proofs.FormulaLaw.{all_each, each_all}
 use Rattle.rule_inline.proofs.PresentsLaw.{all_fit, marked_count, instance_none}
-use Rattle.rule_inline.proofs.FineLemmas.{Fine, fine_more, fine-Known, fine-Var, fine-Read}
-use Rattle.rule_inline.proofs.PlaceFine.{variables_length, DemandFine, DemandsFine, demands_joined, under_fine, body_fine, truth_fine, TermsFine, variables_fine, ChangeFine}
+use Rattle.rule_inline.proofs.FineLemmas.{Fine, fine-Known, fine-Var, fine-Read}
+use Rattle.rule_inline.proofs.PlaceFine.{variables_length, DemandsFine, demands_joined, under_fine, body_fine, truth_fine, TermsFine, variables_fine}
 use Rattle.rule_inline.proofs.PartFine.{some_of, ValuedFine, DoneFine, SiteFine, CallsFine, value_fine}
 use Rattle.rule_inline.proofs.BodyFine.{stmt_fine, calls_in_fine}
 
