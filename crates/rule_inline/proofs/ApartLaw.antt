@@ -1,10 +1,8 @@
 -- In a body whose loops keep their turns apart, as the symmetry rules judge it, each loop is as the translation asks.
-use Rattle.std.proofs.Common.{◌≡◌, ℕ, zero, suc, ◌+◌, ◌<◌, Bool, true, false, List, [], ◌∷◌, length, map, reverse, Option, None, Some, refl, ap, ◌∙◌, arith}
+use Rattle.std.proofs.Common.{◌≡◌, ℕ, zero, suc, ◌+◌, ◌<◌, Bool, true, false, List, [], ◌∷◌, length, reverse, Option, None, Some, refl, ap, ◌∙◌, arith}
 use Rattle.std.specs.Prelude.{slice_get, nat_eq, unwrap_or}
-use Rattle.term_core.specs.declared.value.Value.{Value}
 use Rattle.std.proofs.lemmas.Bool.{and_parts}
 use Rattle.term_core.specs.declared.value.Value.TheVariants as v
-use Rattle.term_core.specs.declared.term.Term.{Term}
 use Rattle.murphi_typed.specs.declared.types.Simple.{Simple}
 use Rattle.murphi_typed.specs.declared.types.Simple.TheVariants as simple
 use Rattle.murphi_typed.specs.declared.stmt.Stmt as st
@@ -17,7 +15,7 @@ use Rattle.murphi_typed.specs.Steps.{are_parameters}
 use Rattle.scalarset_rules.specs.Accesses.{Stand, Scope, binding, called as called_scope, stands_of}
 use Rattle.scalarset_rules.specs.Rules.{count_of, top_scope}
 use Rattle.scalarset_rules.specs.Apart.{IsApart, AreApart, ArmsApart, CasesApart, either_of, ApartIn, BodyApart}
-use Rattle.rule_inline.specs.Tables.{Key, holes, Terms}
+use Rattle.rule_inline.specs.Tables.{Key, holes}
 use Rattle.rule_inline.specs.Parts.{Given as Gift, Site, with_value, with_variable, undefined, variable_of, argued_of}
 use Rattle.rule_inline.specs.Bodies.{called_site, calls_in}
 use Rattle.rule_inline.specs.Presents.{at_nodes}

@@ -1,12 +1,11 @@
 -- The term of a family after a loop over nodes: at a cell it is the term after the body, for the turn of the node that
 -- is the cell's own index.
-use Rattle.std.proofs.Common.{◌≡◌, ℕ, zero, suc, ◌+◌, ◌≤◌, Bool, true, false, not, ◌&&◌, List, [], ◌∷◌, ◌++◌, length, Option, None, Some, refl, sym, ap, ◌∙◌, subst, arith}
+use Rattle.std.proofs.Common.{◌≡◌, ℕ, zero, suc, ◌+◌, Bool, true, false, not, ◌&&◌, List, [], ◌∷◌, ◌++◌, length, Option, Some, refl, sym, ap, ◌∙◌, arith}
 use Rattle.std.specs.Prelude.{slice_get, nat_eq, if◌then◌else◌}
 use Rattle.std.specs.List.{list_all, list_any}
 use Rattle.std.specs.Option.{option_map_or}
 use Rattle.std.proofs.lemmas.Bool.{and_parts}
 use Rattle.std.proofs.lemmas.List.{length-append}
-use Rattle.term_core.specs.declared.value.Value.{Value}
 use Rattle.term_core.specs.declared.value.Value.TheVariants as v
 use Rattle.term_core.specs.declared.term.Term as t
 use Rattle.term_core.specs.declared.term.Term.{Term, Row_of-Term, end_of-Term, more_of-Term}
@@ -18,8 +17,8 @@ use Rattle.term_core.specs.Lists.{list_indices}
 use Rattle.term_core.specs.Laws.{PlacingBinds}
 use Rattle.rule_inline.specs.Tables.{variables, is_comparison, dropped, row_dropped, row_without, closed}
 use Rattle.rule_inline.proofs.ValueLemmas.{absurd_false, nats_one, value_itself}
-use Rattle.rule_inline.proofs.TermLemmas.{value-Known, value-Var, value-Read, value-Not, value-And, value-Or, value-If, value-Same, value-Less, value-Arith, value-Quantified, is_true, holds_same, get_past, length-one_more, same_of, less_of, arith_on, if_of, and_of, or_of}
-use Rattle.rule_inline.proofs.PlaceLemmas.{Stand, stand_joined, stand_length, stand_at, stand_frame, stand_last, variable_there}
+use Rattle.rule_inline.proofs.TermLemmas.{value-Var, value-Read, value-Not, value-And, value-Or, value-If, value-Same, value-Less, value-Arith, value-Quantified, is_true, holds_same, same_of, less_of, arith_on, if_of, and_of, or_of}
+use Rattle.rule_inline.proofs.PlaceLemmas.{Stand, stand_joined, stand_length, stand_at, stand_frame, stand_last}
 
 pub get_kept : {X : Type 0} (xs ys : List X) (k : ℕ) (x : X) → slice_get xs k ≡ Some x → slice_get (xs ++ ys) k ≡ Some x
 get_kept [] ys k x e = cc

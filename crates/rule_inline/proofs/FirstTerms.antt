@@ -92,7 +92,7 @@ abbrev pub IsAt : ℕ → List CellsOf → Owner → Path → Key → Option ℕ
 IsAt first cs owner path key None = Unit {0}
 IsAt first cs owner path key (Some f) = (i : ℕ) × (c : CellsOf) × (f ≡ first + i) × (slice_get cs i ≡ Some c) × (is_slot (slot_of c) owner path key ≡ true)
 
-numbered : (first : ℕ) (cs : List CellsOf) (owner : Owner) (path : Path) (key : Key) → IsAt first cs owner path key (number_from first cs owner path key)
+pub numbered : (first : ℕ) (cs : List CellsOf) (owner : Owner) (path : Path) (key : Key) → IsAt first cs owner path key (number_from first cs owner path key)
 numbered first [] owner path key = tt
 numbered first (c ∷ cs) owner path key = go (is_slot (slot_of c) owner path key) refl (numbered (suc first) cs owner path key)
   where

@@ -1,6 +1,6 @@
 -- The marks with which a body writes a family first are those of one of the writes that the symmetry rules judge.
-use Rattle.std.proofs.Common.{◌≡◌, ℕ, zero, suc, ◌<◌, ◌≤◌, Bool, true, false, not, ◌&&◌, List, [], ◌∷◌, ◌++◌, length, reverse, Option, None, Some, ◌⊎◌, inl, inr, refl, sym, ap, ◌∙◌, subst, arith}
-use Rattle.std.specs.Prelude.{slice_get, nat_eq, option_map, option_and_then, is_some, if◌then◌else◌}
+use Rattle.std.proofs.Common.{◌≡◌, ℕ, suc, ◌<◌, ◌≤◌, Bool, true, false, not, ◌&&◌, List, [], ◌∷◌, ◌++◌, length, reverse, Option, None, Some, ◌⊎◌, inl, inr, refl, sym, ap, ◌∙◌, subst, arith}
+use Rattle.std.specs.Prelude.{slice_get, nat_eq, option_and_then, is_some, if◌then◌else◌}
 use Rattle.std.specs.Option.{option_map_or}
 use Rattle.std.specs.List.{flat_map}
 use Rattle.std.proofs.lemmas.Bool.{and_parts}
@@ -10,7 +10,6 @@ use Rattle.murphi_typed.specs.declared.types.Simple.{Simple}
 use Rattle.murphi_typed.specs.declared.types.Simple.TheVariants as simple
 use Rattle.murphi_typed.specs.declared.types.AnyType as type
 use Rattle.murphi_typed.specs.declared.types.AnyType.{AnyType}
-use Rattle.murphi_typed.specs.declared.expr.Expr.{Expr}
 use Rattle.murphi_typed.specs.declared.expr.Designator as d
 use Rattle.murphi_typed.specs.declared.expr.Designator.{Designator}
 use Rattle.murphi_typed.specs.declared.expr.Arguments.{Arguments}
@@ -18,14 +17,14 @@ use Rattle.murphi_typed.specs.declared.stmt.Stmt as st
 use Rattle.murphi_typed.specs.declared.stmt.Stmt.{Stmt, Row_of-Stmt, end_of-Stmt, more_of-Stmt, Row_of-Arm, end_of-Arm, more_of-Arm, Row_of-Case, end_of-Case, more_of-Case}
 use Rattle.murphi_typed.specs.declared.protocol.Routine.{Routine}
 use Rattle.murphi_typed.specs.declared.protocol.Typed.{Typed}
-use Rattle.murphi_typed.specs.WellTyped.{Scope as Typing, binding as typing_inside, simple_part, formal_type, same_simple, same_type, is_of, is_type, is_simple_type, is_cell_of, holds_values_of, are_alike, may_write, root_of, is_function, arguments_fit, type_of, place_type, labels_fit, stmt_fits, body_fits, arms_fit, cases_fit, routine_scope}
+use Rattle.murphi_typed.specs.WellTyped.{Scope as Typing, binding as typing_inside, formal_type, same_type, is_of, is_type, is_simple_type, is_cell_of, holds_values_of, are_alike, may_write, root_of, is_function, arguments_fit, type_of, place_type, labels_fit, stmt_fits, body_fits, arms_fit, cases_fit, routine_scope}
 use Rattle.murphi_typed.specs.Keeping.{LatestFit}
 use Rattle.scalarset_rules.specs.declared.shape.Binder.{Binder}
-use Rattle.scalarset_rules.specs.Accesses.{Stand, Scope, binding, called as called_scope, stand_mark, shape_of, stands_of, Access, accessed, from_call, Opened, reads, index_reads, argument_reads, accesses, all_accesses, arm_accesses, case_accesses, opened_in}
+use Rattle.scalarset_rules.specs.Accesses.{Stand, Scope, binding, called as called_scope, stand_mark, shape_of, stands_of, Access, accessed, from_call, Opened, reads, argument_reads, accesses, all_accesses, arm_accesses, case_accesses, opened_in}
 use Rattle.scalarset_rules.specs.Rules.{is_it}
 use Rattle.rule_inline.specs.Demands.{is_constant_false}
-use Rattle.rule_inline.specs.Tables.{Slot, Family, Leaving, Result, Terms, Marks, Change, or_else, under_variable, Shown, written, first_of_branches, kept_if_left, own_axis}
-use Rattle.rule_inline.specs.Parts.{Given as Gift, Site, with_value, with_variable, Calls as TermCalls, Done, fixed_values, valued_of, placed_of, argued_of}
+use Rattle.rule_inline.specs.Tables.{Slot, Family, Leaving, Result, Terms, Marks, or_else, under_variable, Shown, written, first_of_branches, kept_if_left, own_axis}
+use Rattle.rule_inline.specs.Parts.{Given as Gift, Site, with_value, with_variable, Calls as TermCalls, Done, fixed_values, valued_of, argued_of}
 use Rattle.rule_inline.specs.Bodies.{taken, turns, done_by, all_done, arms_done, cases_done, called, called_site, calls_in}
 use Rattle.rule_inline.proofs.ValueLemmas.{absurd_false}
 use Rattle.rule_inline.proofs.TypeLemmas.{not_some, some_one}
@@ -36,19 +35,19 @@ use Rattle.rule_inline.proofs.TieLemmas.{GiftTies, Tie, tie_value, tie_node, pla
 
 -- designators that are written have a type
 
-cell_some : (into : Simple) (o : Option AnyType) → is_cell_of into o ≡ true → is_some o ≡ true
+pub cell_some : (into : Simple) (o : Option AnyType) → is_cell_of into o ≡ true → is_some o ≡ true
 cell_some into None e = absurd_false e
 cell_some into (Some U) e = refl
 
-alike_some : (o p : Option AnyType) → are_alike o p ≡ true → is_some o ≡ true
+pub alike_some : (o p : Option AnyType) → are_alike o p ≡ true → is_some o ≡ true
 alike_some None p e = absurd_false e
 alike_some (Some U) p e = refl
 
-type_some : (of : AnyType) (o : Option AnyType) → option_map_or (same_type of) o false ≡ true → is_some o ≡ true
+pub type_some : (of : AnyType) (o : Option AnyType) → option_map_or (same_type of) o false ≡ true → is_some o ≡ true
 type_some of None e = absurd_false e
 type_some of (Some U) e = refl
 
-procedure_there : (ts : Typing) (k : ℕ) (args : Arguments) → option_map_or (λ r. not (is_some r.result) && arguments_fit ts r.formals args) (slice_get ts.routines k) false ≡ true → (r : Routine) × ((slice_get ts.routines k ≡ Some r) × (arguments_fit ts r.formals args ≡ true))
+pub procedure_there : (ts : Typing) (k : ℕ) (args : Arguments) → option_map_or (λ r. not (is_some r.result) && arguments_fit ts r.formals args) (slice_get ts.routines k) false ≡ true → (r : Routine) × ((slice_get ts.routines k ≡ Some r) × (arguments_fit ts r.formals args ≡ true))
 procedure_there ts k args e = go (slice_get ts.routines k) refl e
   where
     go : (o : Option Routine) → slice_get ts.routines k ≡ o → option_map_or (λ r. not (is_some r.result) && arguments_fit ts r.formals args) o false ≡ true → (r : Routine) × ((slice_get ts.routines k ≡ Some r) × (arguments_fit ts r.formals args ≡ true))

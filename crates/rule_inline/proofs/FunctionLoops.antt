@@ -1,6 +1,6 @@
 -- The body of a function has no loop over nodes, by a symmetry rule, and calls no procedure, as it is well typed. So
 -- nothing is asked of the loops of functions.
-use Rattle.std.proofs.Common.{◌≡◌, ℕ, suc, Bool, true, false, not, ◌&&◌, List, [], ◌∷◌, ◌++◌, reverse, Option, None, Some, inl, inr, refl, sym, ap, ◌∙◌, subst}
+use Rattle.std.proofs.Common.{◌≡◌, ℕ, suc, Bool, true, false, not, ◌&&◌, List, [], ◌∷◌, ◌++◌, reverse, Option, Some, inl, inr, refl, sym, ap, subst}
 use Rattle.std.specs.Prelude.{slice_get, is_some, if◌then◌else◌}
 use Rattle.std.specs.List.{flat_map, list_all}
 use Rattle.std.specs.Option.{option_map_or}
@@ -14,7 +14,6 @@ use Rattle.murphi_typed.specs.declared.stmt.Stmt as st
 use Rattle.murphi_typed.specs.declared.stmt.Stmt.{Stmt, Row_of-Stmt, end_of-Stmt, more_of-Stmt, Row_of-Arm, end_of-Arm, more_of-Arm, Row_of-Case, end_of-Case, more_of-Case}
 use Rattle.murphi_typed.specs.declared.protocol.Formal.{Formal as DeclaredFormal}
 use Rattle.murphi_typed.specs.declared.protocol.Routine.{Routine}
-use Rattle.murphi_typed.specs.declared.protocol.NodeType.{NodeType}
 use Rattle.murphi_typed.specs.declared.protocol.Typed.{Typed}
 use Rattle.murphi_typed.specs.Prefix.{is_over_nodes}
 use Rattle.murphi_typed.specs.WellTyped.{Scope, is_function, exit_of, is_of, type_of, labels_fit, cases_fit, arms_fit, body_fits, stmt_fits, routine_scope, routine_fits, is_type, formal_allowed, is_simple_type, are_variables, binding, with_kinds}

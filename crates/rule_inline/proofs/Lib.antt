@@ -42,3 +42,7 @@ pub mod FiringLaw
 pub mod StartLaw
 pub mod PresentsLaw
 pub mod FineLemmas
+pub mod PlaceFine
+pub mod PartFine
+pub mod BodyFine
+pub mod WholeLaw

@@ -1,13 +1,11 @@
 -- A loop over all nodes whose turns do not meet becomes one update: its demands are those of one turn for all nodes,
 -- and each family that it writes has the term after one turn, for the node that is the cell's own index.
-use Rattle.std.proofs.Common.{◌≡◌, ℕ, zero, suc, ◌<◌, ◌≤◌, Bool, true, false, not, ◌&&◌, List, [], ◌∷◌, ◌++◌, length, reverse, Option, None, Some, ◌⊎◌, inl, inr, refl, sym, ap, ◌∙◌, subst, append_assoc, arith}
+use Rattle.std.proofs.Common.{◌≡◌, ℕ, zero, suc, ◌≤◌, Bool, true, false, List, [], ◌∷◌, ◌++◌, length, reverse, Option, None, Some, ◌⊎◌, inl, inr, refl, sym, ap, ◌∙◌, subst, append_assoc, arith}
 use Rattle.std.specs.Prelude.{slice_get, option_and_then, nat_le}
 use Rattle.std.specs.List.{list_all}
 use Rattle.std.specs.Option.{option_map_or}
 use Rattle.std.proofs.lemmas.Bool.{and_parts}
-use Rattle.term_core.specs.declared.value.Value.{Value}
 use Rattle.term_core.specs.declared.value.Value.TheVariants as v
-use Rattle.term_core.specs.declared.term.Term.{Term}
 use Rattle.term_core.specs.Nodes.{is_node}
 use Rattle.term_core.specs.Meaning.{Cells, value_of}
 use Rattle.term_core.specs.Laws.{PlacingBinds}
@@ -25,20 +23,19 @@ use Rattle.murphi_typed.specs.WellTyped.{binding as typing_inside, body_fits}
 use Rattle.murphi_typed.specs.Keeping.{Declared}
 use Rattle.murphi_typed.specs.Laws.{ValuesFitInBodies, BodiesKeepTypes, FunctionsGiveResults}
 use Rattle.scalarset_rules.specs.Accesses.{Scope, next_binder, Loop, opened_in, binding}
-use Rattle.scalarset_rules.specs.Rules.{is_deeper, marks}
-use Rattle.scalarset_rules.specs.Turns.{fields, family_place, is_own, in_scope, StandsIn, KeepsApart, loop_over, turn, whole, AreMerged, LoopFaults, LoopEnds, TurnsGoOn, WritesHaveOnePlace}
+use Rattle.scalarset_rules.specs.Rules.{marks}
+use Rattle.scalarset_rules.specs.Turns.{family_place, is_own, in_scope, StandsIn, KeepsApart, loop_over, turn, whole, AreMerged, LoopFaults, LoopEnds, TurnsGoOn, WritesHaveOnePlace}
 use Rattle.rule_inline.specs.Demands.{binding as demand_binding}
-use Rattle.rule_inline.specs.Tables.{Key, holes, Slot, Family, Leaving, Terms, Marks, under_variable, axes, closed, axis_in, own_axis, over_nodes}
+use Rattle.rule_inline.specs.Tables.{Key, holes, Slot, Family, Leaving, Terms, Marks, under_variable, axes, closed, axis_in, over_nodes}
 use Rattle.rule_inline.specs.Parts.{Given as Gift, Site, with_variable, Done}
-use Rattle.rule_inline.specs.Bodies.{all_done, for_nodes, calls_in}
+use Rattle.rule_inline.specs.Bodies.{all_done, calls_in}
 use Rattle.rule_inline.specs.Presents.{at_nodes}
-use Rattle.rule_inline.proofs.ValueLemmas.{absurd_false}
 use Rattle.rule_inline.proofs.TermLemmas.{is_true, length-one_more}
-use Rattle.rule_inline.proofs.Outcome.{AllHold, SomeFails, Nodes, Tells, all_binding, fails_binding}
+use Rattle.rule_inline.proofs.Outcome.{AllHold, Nodes, Tells, all_binding, fails_binding}
 use Rattle.rule_inline.proofs.PlaceLemmas.{NoNodes, reaches, Rep}
 use Rattle.rule_inline.proofs.TypeLemmas.{not_some, some_one}
 use Rattle.rule_inline.proofs.SceneLemmas.{rep_under, at_frame, inner}
-use Rattle.rule_inline.proofs.ChangeLemmas.{Unwritten, row_unwritten, calls_unwritten}
+use Rattle.rule_inline.proofs.ChangeLemmas.{row_unwritten, calls_unwritten}
 use Rattle.rule_inline.proofs.EndLemmas.{Body, body_node, EndsWith, checked}
 use Rattle.rule_inline.proofs.StatementLemmas.{Follows}
 use Rattle.rule_inline.proofs.StatementLaw.{LoopsTell}

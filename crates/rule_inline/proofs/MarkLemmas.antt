@@ -1,15 +1,12 @@
 -- The marks of a place in the translation stand for its node indices, those of its shape in the symmetry rules for
 -- all its indices. Both say which index is the variable of a loop.
-use Rattle.std.proofs.Common.{◌≡◌, ℕ, zero, suc, ◌<◌, ◌≤◌, Bool, true, false, ◌&&◌, List, [], ◌∷◌, ◌++◌, length, map, Option, None, Some, ◌⊎◌, inl, inr, refl, sym, ap, ◌∙◌, subst, arith}
-use Rattle.std.specs.Prelude.{slice_get, nat_eq, option_map, option_and_then, unwrap_or, is_some, if◌then◌else◌}
+use Rattle.std.proofs.Common.{◌≡◌, ℕ, zero, suc, Bool, true, false, ◌&&◌, List, [], ◌∷◌, ◌++◌, length, Option, None, Some, ◌⊎◌, inl, inr, refl, sym, ap, ◌∙◌, subst, arith}
+use Rattle.std.specs.Prelude.{slice_get, nat_eq, option_map, option_and_then, if◌then◌else◌}
 use Rattle.std.specs.Str.{bytes_eq}
-use Rattle.std.specs.List.{list_all}
 use Rattle.std.proofs.lemmas.Bool.{and_parts}
 use Rattle.term_core.specs.declared.value.Value.{Value}
 use Rattle.term_core.specs.declared.value.Value.TheVariants as value
-use Rattle.term_core.specs.declared.term.Term as t
 use Rattle.term_core.specs.declared.term.Term.{Term}
-use Rattle.term_core.specs.Nodes.{is_node}
 use Rattle.term_core.specs.Values.{same_value}
 use Rattle.term_core.specs.Variables.{is_no_node}
 use Rattle.term_core.specs.Substitution.{lifted}
@@ -17,7 +14,7 @@ use Rattle.murphi_ast.specs.declared.token.Span.{Span}
 use Rattle.murphi_typed.specs.Families.{Path}
 use Rattle.murphi_typed.specs.Store.{Owner, Global, Local, Formal, same_owner, beyond}
 use Rattle.scalarset_rules.specs.declared.shape.Binder.{Binder}
-use Rattle.scalarset_rules.specs.Accesses.{Shape, Access, blamed, from_call}
+use Rattle.scalarset_rules.specs.Accesses.{Shape, Access, from_call}
 use Rattle.scalarset_rules.specs.Rules.{marks, is_it, one_later, first_at}
 use Rattle.scalarset_rules.specs.Turns.{fields, is_front, node_at}
 use Rattle.rule_inline.specs.Tables.{Key, holes, Slot, Family, Leaving, Result, Terms, Marks, Index, Axis, Among, Spot, marks_of, Shown, Match, matched, renewed_term, written, axis_in, or_else}

@@ -1,5 +1,5 @@
 -- The machine of a well-typed protocol that keeps the symmetry rules presents it.
-use Rattle.std.proofs.Common.{◌≡◌, ℕ, zero, suc, ◌+◌, ◌≤◌, Bool, true, false, ◌&&◌, List, [], ◌∷◌, ◌++◌, length, map, reverse, Option, None, Some, ◌⊎◌, inl, inr, refl, sym, ap, ◌∙◌, subst, arith}
+use Rattle.std.proofs.Common.{◌≡◌, ℕ, zero, suc, ◌+◌, Bool, true, false, ◌&&◌, List, [], ◌∷◌, ◌++◌, length, map, reverse, None, Some, ◌⊎◌, inl, inr, refl, sym, ap, ◌∙◌, subst, arith}
 use Rattle.std.specs.Prelude.{slice_get, count_by, cond, IsTrue}
 use Rattle.std.specs.List.{flat_map, list_all}
 use Rattle.std.proofs.lemmas.Bool.{and_parts}
@@ -11,9 +11,8 @@ use Rattle.term_core.specs.Nodes.{is_node}
 use Rattle.term_core.specs.Meaning.{Cells}
 use Rattle.term_core.specs.Variables.{is_no_node}
 use Rattle.term_core.specs.Cells.{cell_value, blank_state}
-use Rattle.term_core.specs.Firing.{is_node_value, IsChoice}
+use Rattle.term_core.specs.Firing.{is_node_value}
 use Rattle.term_core.specs.Laws.{PlacingBinds}
-use Rattle.murphi_typed.specs.declared.protocol.NodeType.{NodeType}
 use Rattle.murphi_typed.specs.declared.protocol.Parameter.{Parameter}
 use Rattle.murphi_typed.specs.declared.protocol.Routine.{Routine}
 use Rattle.murphi_typed.specs.declared.protocol.Rule.{Rule}
@@ -102,7 +101,7 @@ there_all : {A : Type 0} (whole xs : List A) (before : ℕ) → ((i : ℕ) (x : 
 there_all whole [] before in_whole = tt
 there_all whole (x ∷ xs) before in_whole = (in_whole 0 x refl, there_all whole xs before (λ i y e. in_whole (suc i) y e))
 
-all_fit : {A : Type 0} (test : A → Bool) (xs : List A) (k : ℕ) (x : A) → list_all test xs ≡ true → slice_get xs k ≡ Some x → test x ≡ true
+pub all_fit : {A : Type 0} (test : A → Bool) (xs : List A) (k : ℕ) (x : A) → list_all test xs ≡ true → slice_get xs k ≡ Some x → test x ≡ true
 all_fit test [] k x e there = not_some there
 all_fit test (y ∷ xs) zero x e there = ap test (sym (some_one there)) ∙ (and_parts (test y) (list_all test xs) e).0
 all_fit test (y ∷ xs) (suc k) x e there = all_fit test xs k x (and_parts (test y) (list_all test xs) e).1 there
@@ -122,7 +121,7 @@ fixed_uncounted (v.Number z) nn = refl
 fixed_uncounted (v.Member k i) nn = refl
 fixed_uncounted (v.Node n) nn = absurd_false nn
 
-marked_count : (next : ℕ) (key : Key) → NoNodes key → count_by is_node_value (marked_values next key) ≡ holes key
+pub marked_count : (next : ℕ) (key : Key) → NoNodes key → count_by is_node_value (marked_values next key) ≡ holes key
 marked_count next [] none = refl
 marked_count next (None ∷ key) none =
     let rest : count_by is_node_value (marked_values (suc next) key) ≡ holes key = marked_count (suc next) key none in
@@ -146,7 +145,7 @@ nodes_back (Some w ∷ key) ns (nn, none) long = go w nn (nodes_back key ns none
     go (v.Member k i) nn rest = rest
     go (v.Node n) nn rest = absurd_false nn
 
-instance_none : (params : List Parameter) (i : ℕ) (key : Key) → slice_get (instances params) i ≡ Some key → NoNodes key
+pub instance_none : (params : List Parameter) (i : ℕ) (key : Key) → slice_get (instances params) i ≡ Some key → NoNodes key
 instance_none params i key e = each_at NoNodes (instances params) (each_map NoNodes (map fixed) _ (each_of (λ at. NoNodes (map fixed at)) fixed_no _)) i key e
 
 instance_fits : (N : ℕ) (params : List Parameter) (i : ℕ) (key : Key) → slice_get (instances params) i ≡ Some key → Fits N params key

@@ -1,6 +1,6 @@
 -- A site of the translation and a scope of the symmetry rules for one body, where what the formals stand for is of
 -- the bodies around. From these comes what is known of the variable of a loop in its body.
-use Rattle.std.proofs.Common.{◌≡◌, ℕ, zero, suc, ◌<◌, ◌≤◌, Bool, true, false, not, ◌&&◌, List, [], ◌∷◌, ◌++◌, length, map, Option, None, Some, refl, sym, ap, ◌∙◌, subst, arith}
+use Rattle.std.proofs.Common.{◌≡◌, ℕ, zero, suc, ◌<◌, Bool, true, false, ◌&&◌, List, [], ◌∷◌, ◌++◌, length, map, Option, None, Some, refl, sym, ap, ◌∙◌, subst, arith}
 use Rattle.std.specs.Prelude.{slice_get, nat_eq, nat_lt, unwrap_or, if◌then◌else◌}
 use Rattle.std.proofs.lemmas.Bool.{and_parts}
 use Rattle.term_core.specs.declared.value.Value.{Value}
@@ -19,14 +19,14 @@ use Rattle.murphi_typed.specs.declared.expr.Selector as select
 use Rattle.murphi_typed.specs.declared.expr.Arguments as a
 use Rattle.murphi_typed.specs.declared.expr.Arguments.{Arguments, Row_of-Argument, end_of-Argument, more_of-Argument}
 use Rattle.murphi_typed.specs.declared.expr.Argument as argument
-use Rattle.murphi_typed.specs.Store.{Owner, Global, Local, Formal, Place}
+use Rattle.murphi_typed.specs.Store.{Owner, Global, Local, Formal}
 use Rattle.murphi_typed.specs.Expressions.{Given, Filled as StoreFilled, Standing as StoreStanding, Scene, row_path}
 use Rattle.murphi_typed.specs.Prefix.{is_over_nodes}
 use Rattle.murphi_typed.specs.WellTyped.{Scope as Typing, binding as typing_inside}
 use Rattle.scalarset_rules.specs.declared.shape.Binder.{Binder}
-use Rattle.scalarset_rules.specs.Accesses.{same_binder, Shape, Stand, Valued as ForValue, Placed as ForPlace, Scope, binding, called as called_scope, next_binder, stand_mark, root_mark as scope_root_mark, unselected, place_mark as scope_place_mark, mark, whole_shape, placed_shape, root_shape, row_parts, shape_of, row_stands, stands_of}
+use Rattle.scalarset_rules.specs.Accesses.{Shape, Stand, Valued as ForValue, Placed as ForPlace, Scope, binding, called as called_scope, next_binder, stand_mark, root_mark as scope_root_mark, unselected, place_mark as scope_place_mark, mark, whole_shape, placed_shape, root_shape, row_parts, shape_of, row_stands, stands_of}
 use Rattle.scalarset_rules.specs.Rules.{marks, is_it, is_deeper}
-use Rattle.scalarset_rules.specs.Turns.{fields, is_outer, are_outer, IsPlaceOf, IsStand, AreStands, StandsIn}
+use Rattle.scalarset_rules.specs.Turns.{fields, is_outer, are_outer, AreStands, StandsIn}
 use Rattle.rule_inline.specs.Tables.{Terms, Index, Axis, Among, Spot, lifted_index}
 use Rattle.rule_inline.specs.Parts.{Given as Gift, Filled, Standing, Site, lifted_given, with_value, with_variable, Calls as TermCalls, fixed_values, undefined, variable_of, formal_mark, root_mark, mark_if_whole, place_mark, bound_term, mark_of, whole_spot, stood_for, root_spot, index_over, valued_of, placed_of, indices_of, argued_of, row_argued}
 use Rattle.rule_inline.specs.Bodies.{called_site}
@@ -35,7 +35,7 @@ use Rattle.rule_inline.proofs.TermLemmas.{length-one_more}
 use Rattle.rule_inline.proofs.TypeLemmas.{not_some, some_one}
 use Rattle.rule_inline.proofs.PlaceLemmas.{Leads}
 use Rattle.rule_inline.proofs.SceneLemmas.{BoundAre, GiftsAre, Sited, at_frame}
-use Rattle.rule_inline.proofs.MarkLemmas.{is_loop, MarkIs, IndexTies}
+use Rattle.rule_inline.proofs.MarkLemmas.{is_loop, IndexTies}
 use Rattle.rule_inline.proofs.TieLemmas.{fields_joined, marks_joined, row_fields, GiftTies, Tie, gifts_lifted}
 
 -- the terms of bound variables, and one more

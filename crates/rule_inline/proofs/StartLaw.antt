@@ -1,5 +1,5 @@
 -- A start state begins as its term rule says, where loops over nodes are given.
-use Rattle.std.proofs.Common.{◌≡◌, ℕ, true, false, ◌&&◌, List, [], ◌++◌, length, map, reverse, Option, None, Some, refl, sym, ap, ◌∙◌, subst}
+use Rattle.std.proofs.Common.{◌≡◌, ℕ, true, false, ◌&&◌, List, [], ◌++◌, length, reverse, Option, None, Some, refl, sym, ap, ◌∙◌, subst}
 use Rattle.std.specs.Prelude.{slice_get, nat_eq, if◌then◌else◌, IsTrue}
 use Rattle.std.specs.List.{list_all}
 use Rattle.std.specs.Option.{option_map_or}
@@ -20,18 +20,18 @@ use Rattle.murphi_typed.specs.declared.stmt.Stmt.{Row_of-Stmt}
 use Rattle.murphi_typed.specs.Store.{blank, Cells as Store}
 use Rattle.murphi_typed.specs.Outcome.{Outcome, Got, Fault, given}
 use Rattle.murphi_typed.specs.Execution.{cells_after}
-use Rattle.murphi_typed.specs.Steps.{State, cells_of, state_of, are_parameters, outermost, started}
+use Rattle.murphi_typed.specs.Steps.{State, state_of, are_parameters, outermost, started}
 use Rattle.murphi_typed.specs.WellTyped.{is_well_typed, are_variables, are_parameter_types, top_scope, stmt_fits, rule_fits, routines_fit, start_fits, formula_fits}
 use Rattle.murphi_typed.specs.Keeping.{Declared, IsState, IsTypedBody, top_types}
 use Rattle.murphi_typed.specs.Laws.{ValuesFitInBodies, BodiesKeepTypes, FunctionsGiveResults, CalledBodiesAreTyped, BlankBodiesAreTyped, StartsLeaveStates, StatesHaveValues}
 use Rattle.rule_inline.specs.Demands.{Demand, under_test}
-use Rattle.rule_inline.specs.Tables.{Key, holes, Change}
+use Rattle.rule_inline.specs.Tables.{Key, holes}
 use Rattle.rule_inline.specs.Parts.{Site}
 use Rattle.rule_inline.specs.Bodies.{calls_in}
 use Rattle.rule_inline.specs.Presents.{at_nodes, cell_in, state_over, StartsAs}
 use Rattle.rule_inline.specs.Machine.{CellsOf, cell_family, trans, top_site, top_terms, first_terms, families_of, guard_of, body_done, start_at}
 use Rattle.rule_inline.proofs.ValueLemmas.{nat_itself}
-use Rattle.rule_inline.proofs.Outcome.{Tells, Nodes}
+use Rattle.rule_inline.proofs.Outcome.{Tells}
 use Rattle.rule_inline.proofs.PlaceLemmas.{Rep}
 use Rattle.rule_inline.proofs.TypeLemmas.{some_one}
 use Rattle.rule_inline.proofs.StatementLemmas.{stmt_loops}
@@ -39,7 +39,7 @@ use Rattle.rule_inline.proofs.ChangeLemmas.{Unwritten, stmt_unwritten, calls_unw
 use Rattle.rule_inline.proofs.StatementLaw.{LoopsTell}
 use Rattle.rule_inline.proofs.CallLaw.{fine_in, FunctionsFine}
 use Rattle.rule_inline.proofs.FirstTerms.{FilledValues, get_map, machine_value, first_rep}
-use Rattle.rule_inline.proofs.RuleLemmas.{demands_hold, demand_fails, FireEnds, top_fired, fired_told}
+use Rattle.rule_inline.proofs.RuleLemmas.{demands_hold, demand_fails, FireEnds, fired_told}
 use Rattle.rule_inline.proofs.StepLemmas.{new_is, state_value}
 use Rattle.rule_inline.proofs.StepLaw.{StatesAreOne, long_map, cell_there, may_have_value}
 

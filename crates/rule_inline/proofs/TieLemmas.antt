@@ -22,19 +22,18 @@ use Rattle.murphi_typed.specs.declared.expr.Arguments as a
 use Rattle.murphi_typed.specs.declared.expr.Arguments.{Arguments, Row_of-Argument, end_of-Argument, more_of-Argument}
 use Rattle.murphi_typed.specs.declared.expr.Argument as argument
 use Rattle.murphi_typed.specs.declared.protocol.Formal.{Formal as DeclaredFormal}
-use Rattle.murphi_typed.specs.Families.{Path}
-use Rattle.murphi_typed.specs.Store.{Owner, Global, Local, Formal}
+use Rattle.murphi_typed.specs.Store.{Owner, Local, Formal}
 use Rattle.murphi_typed.specs.Expressions.{row_path}
 use Rattle.murphi_typed.specs.Prefix.{is_over_nodes}
-use Rattle.murphi_typed.specs.WellTyped.{Scope as Typing, binding as typing_inside, widened, same_simple, simple_part, item_part, field_part, formal_type, root_type, is_of, only_if, may_write, root_of, given_value, given_place, given_compound, first_of, rest_of, type_of, place_type, selected_type, arguments_fit, row_fits, argument_fits}
+use Rattle.murphi_typed.specs.WellTyped.{Scope as Typing, binding as typing_inside, widened, simple_part, item_part, field_part, formal_type, root_type, is_of, only_if, may_write, root_of, given_value, given_place, first_of, rest_of, type_of, place_type, selected_type, arguments_fit, row_fits, argument_fits}
 use Rattle.scalarset_rules.specs.declared.shape.Binder.{Binder}
 use Rattle.scalarset_rules.specs.declared.shape.Part.{Part}
 use Rattle.scalarset_rules.specs.declared.shape.Part.TheVariants.{Field, Index as Indexed}
-use Rattle.scalarset_rules.specs.Accesses.{same_binder, Shape, Stand, Valued as ForValue, Placed as ForPlace, Scope, binding, stand_mark, root_mark as scope_root_mark, unselected, place_mark as scope_place_mark, mark, whole_shape, placed_shape, root_shape, row_parts, under, shape_of, argument_stand, row_stands, stands_of}
+use Rattle.scalarset_rules.specs.Accesses.{Stand, Valued as ForValue, Placed as ForPlace, Scope, binding, stand_mark, root_mark as scope_root_mark, unselected, place_mark as scope_place_mark, mark, whole_shape, placed_shape, root_shape, row_parts, shape_of, row_stands, stands_of}
 use Rattle.scalarset_rules.specs.Rules.{marks, is_it}
 use Rattle.scalarset_rules.specs.Turns.{fields}
-use Rattle.rule_inline.specs.Tables.{Terms, Index, Axis, Among, Spot, lifted_index, lifted_spot}
-use Rattle.rule_inline.specs.Parts.{Given as Gift, Filled, Standing, Site, lifted_given, with_value, with_variable, Calls as TermCalls, fixed_values, undefined, variable_of, formal_mark, root_mark, mark_if_whole, place_mark, bound_term, mark_of, whole_spot, stood_for, root_spot, index_over, valued_of, placed_of, indices_of, argued_of, row_argued, one_argued}
+use Rattle.rule_inline.specs.Tables.{Terms, Index, Axis, Among, Spot, lifted_index}
+use Rattle.rule_inline.specs.Parts.{Given as Gift, Filled, Standing, Site, lifted_given, with_value, with_variable, Calls as TermCalls, fixed_values, undefined, variable_of, formal_mark, root_mark, mark_if_whole, place_mark, bound_term, mark_of, whole_spot, stood_for, root_spot, index_over, valued_of, placed_of, indices_of, argued_of, row_argued}
 use Rattle.rule_inline.proofs.ValueLemmas.{absurd_false}
 use Rattle.rule_inline.proofs.TermLemmas.{get_first, length-one_more}
 use Rattle.rule_inline.proofs.TypeLemmas.{not_some, some_one}

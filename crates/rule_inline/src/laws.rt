@@ -1,6 +1,6 @@
 //! What holds of the translation: laws, each on a function that does nothing.
 
-ghost use Rattle.rule_inline.specs.Laws.{PiecesSayFormula, PiecesWithinPrefix, TranslationPresents};
+ghost use Rattle.rule_inline.specs.Laws.{PiecesSayFormula, PiecesWithinPrefix, TranslationIsWhole, TranslationPresents};
 ghost use Rattle.rule_inline.specs.Loops.{KeepsRules};
 ghost use Rattle.rule_inline.specs.Worked.{CopiesAreAsWorked, LinkIsAsWorked, MutexIsAsWorked, CallsAreAsWorked};
 ghost use Rattle.rule_inline.specs.WorkedMore.{MixedAreAsWorked};
@@ -58,4 +58,13 @@ pub fn translation_presents()
     bodies_keep_to_their_types();
     turns_do_not_meet();
     unbroken_texts_keep_turns_apart();
+}
+
+/// The machine of a well-typed protocol is whole, where each rule and start has at most three node parameters and
+/// the prefix of its source: updates are of its families and of none twice, node parameters and binders are within
+/// the prefix, terms have no variables but those, each read is of a cell, and no constant is a node.
+pub fn translation_is_whole()
+    ensures whole { TranslationIsWhole }
+{
+    bodies_keep_to_their_types();
 }
