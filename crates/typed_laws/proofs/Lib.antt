@@ -8,3 +8,4 @@ mod Nodes
 mod RenamedValues
 mod RenamedBodies
 mod Samples
+mod ListingLemmas

@@ -32,7 +32,7 @@ or_right : (a b : Bool) → b ≡ true → (a || b) ≡ true
 or_right true b e = refl
 or_right false b e = e
 
-owner_itself : (a : Owner) → same_owner a a ≡ true
+pub owner_itself : (a : Owner) → same_owner a a ≡ true
 owner_itself (Global a) = eq-eqb a a refl
 owner_itself (Local d a) = and_from (nat_eq d d) (nat_eq a a) (eq-eqb d d refl) (eq-eqb a a refl)
 owner_itself (Formal d a) = and_from (nat_eq d d) (nat_eq a a) (eq-eqb d d refl) (eq-eqb a a refl)
@@ -140,7 +140,7 @@ writes_stay routines scope scene c body ending stands is owner path at near out 
 
 -- one target
 
-unchanged : (c : Cells) (p : Place) (new : Contents) (owner : Owner) (path : Path) (at : List Value) → is_under p owner path at ≡ false → written c p new owner path at ≡ c owner path at
+pub unchanged : (c : Cells) (p : Place) (new : Contents) (owner : Owner) (path : Path) (at : List Value) → is_under p owner path at ≡ false → written c p new owner path at ≡ c owner path at
 unchanged c p new owner path at out = go (same_owner owner p.owner) (beyond bytes_eq p.path path) (beyond same_value p.at at) out
   where
     go : (b : Bool) (o : Option Path) (q : Option (List Value)) → (b && (is_some o && is_some q)) ≡ false → (if b then renewed new (c owner path at) o q else c owner path at) ≡ c owner path at

@@ -2,3 +2,4 @@
 pub mod Regions
 pub mod Renamings
 pub mod WorkedSamples
+pub mod Listing

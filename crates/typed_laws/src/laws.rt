@@ -1,6 +1,7 @@
 //! What holds of the meaning of every typed protocol: laws, each on a function that does nothing.
 
 ghost use Rattle.typed_laws.specs.WorkedSamples.{MutexIsAsWorked, GermanIsAsWorked};
+ghost use Rattle.typed_laws.specs.Listing.{CellsHavePlaces, ChangesAreListed};
 ghost use Rattle.typed_laws.specs.Renamings.{ValuesAreRenamed, EndingsAreRenamed};
 ghost use Rattle.typed_laws.specs.Regions.{ReadsGiveValues, ReadsGiveEndings, WritesStayInPlaces, AssignmentsStayInPlaces};
 
@@ -31,4 +32,12 @@ pub fn nodes_may_change_places()
 pub fn worked_cases()
     ensures mutex { MutexIsAsWorked }
     ensures german { GermanIsAsWorked }
+{}
+
+/// A state is a list of values in the order in which its cells are printed. No cell is listed twice: the k-th
+/// cell is the one whose place is k. Where one cell has another value, the state has it at the place of the
+/// cell, and nothing else changes.
+pub fn states_are_lists_of_cells()
+    ensures places { CellsHavePlaces }
+    ensures changes { ChangesAreListed }
 {}
