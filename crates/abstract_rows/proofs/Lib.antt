@@ -1,0 +1,2 @@
+-- The worked cases, evaluated.
+pub mod Worked

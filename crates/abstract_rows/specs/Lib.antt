@@ -1,0 +1,5 @@
+-- The worked cases.
+pub mod Terms
+pub mod Values
+pub mod Counts
+pub mod Mutex
