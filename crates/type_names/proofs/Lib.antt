@@ -3,3 +3,4 @@ pub mod ScopeLemmas
 pub mod PartLemmas
 pub mod ExprEquations
 pub mod BodyEquations
+pub mod WholeEquations

@@ -3,4 +3,5 @@ pub mod Scoping
 pub mod Parts
 pub mod Gathering
 pub mod Bodies
+pub mod Wholes
 pub mod Laws

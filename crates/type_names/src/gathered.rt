@@ -1,11 +1,12 @@
 //! What is gathered of a text.
 #![tactic(auto, using(crate::proofs::PartLemmas::steps))]
 
-ghost use Rattle.std.specs.Prelude.{◌≡◌, IfOk};
+ghost use Rattle.std.specs.Prelude.{◌≡◌, [], ◌∷◌, IfOk};
 ghost use Rattle.type_names.specs.Parts.{hidden_by};
 ghost use Rattle.type_names.specs.Gathering.{with_use, with_names, with_fault};
+ghost use Rattle.type_names.specs.Wholes.{nothing_gathered};
 
-use crate::scope::{Scoped, declare_all};
+use crate::scope::{Scoped, declare, declare_all, no_names};
 use murphi_ast::expr::Named;
 use murphi_ast::text::{Memory, Text};
 use murphi_ast::token::Span;
@@ -90,5 +91,33 @@ pub fn add_fault(more: Option<Fault>, so_far: Gathered) -> Gathered
         uses,
         global,
         fault: sooner(fault, more),
+    }
+}
+
+/// One name is declared for the whole text.
+pub fn add_name(name: &Named, alloc: Global, so_far: Gathered) -> Result<Gathered, Memory>
+    ensures { IfOk result (λ g. g ≡ with_names (name.now ∷ []) so_far) }
+{
+    let Gathered {
+        uses,
+        global,
+        fault,
+    } = so_far;
+    let global = declare(name, alloc, global)?;
+    Ok(Gathered {
+        uses,
+        global,
+        fault,
+    })
+}
+
+/// Nothing is gathered yet.
+pub fn nothing_gathered(alloc: Global) -> Gathered
+    ensures { result ≡ nothing_gathered }
+{
+    Gathered {
+        uses: Items::new(alloc),
+        global: no_names(alloc),
+        fault: None,
     }
 }

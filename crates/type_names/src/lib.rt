@@ -6,3 +6,5 @@ pub mod gathered;
 pub mod laws;
 pub mod scope;
 pub mod statements;
+pub mod texts;
+pub mod wholes;
