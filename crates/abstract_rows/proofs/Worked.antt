@@ -5,6 +5,7 @@ use Rattle.term_core.specs.declared.term.Term.TheBlock.{hidden-the_row-Term-0, s
 use Rattle.other_abstract.specs.Tests.{may}
 use Rattle.abstract_rows.specs.Values.{OnlyIsAsWorked, OthersAreAsWorked, ReadsAreAsWorked}
 use Rattle.abstract_rows.specs.Counts.{PatternsAreAsCounted, CellsAreAsCounted, RefusalsAreAsWorked}
+use Rattle.abstract_rows.specs.Starts.{StartsAreAsWorked, FaultsAreAsWorked}
 use Rattle.abstract_rows.specs.Mutex.{PathIsAsWorked, ShortPathIsNone, ViolationsAreAsWorked}
 
 pub only : OnlyIsAsWorked
@@ -39,3 +40,11 @@ short alloc = (refl, refl, refl, refl)
 pub violations : ViolationsAreAsWorked
 unfolding may hidden-the_row-Term-0 shape-the_row-Term-1 hidden-the_row-Term-1 hidden
 violations alloc = (refl, refl, refl, refl)
+
+pub starts : StartsAreAsWorked
+unfolding may hidden-the_row-Term-0 shape-the_row-Term-1 hidden-the_row-Term-1 hidden
+starts alloc = (refl, refl, refl, refl, refl, refl, refl, refl)
+
+pub faults : FaultsAreAsWorked
+unfolding may hidden-the_row-Term-0 shape-the_row-Term-1 hidden-the_row-Term-1 hidden
+faults alloc = (refl, refl, refl)

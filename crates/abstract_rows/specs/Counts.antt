@@ -6,7 +6,7 @@ use Rattle.term_core.specs.declared.value.Sort.TheVariants as sort
 use Rattle.term_core.specs.declared.machine.CellFamily.{CellFamily}
 use Rattle.lemma_strengthen.specs.declared.formula.FormulaKind.TheVariants.{Invariant}
 use Rattle.other_abstract.specs.declared.node.AbsNode.TheVariants.{Kept, Fired}
-use Rattle.other_abstract.specs.declared.making.MakeStop.TheVariants.{Prefix, Cells}
+use Rattle.other_abstract.specs.declared.making.MakeStop.TheVariants.{Prefix}
 use Rattle.other_abstract.specs.Patterns.{patterns_of}
 use Rattle.other_abstract.specs.Making.{cell_count, counted, refusal}
 use Rattle.abstract_rows.specs.Terms.{truth, family, rule}

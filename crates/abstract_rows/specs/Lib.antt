@@ -3,3 +3,4 @@ pub mod Terms
 pub mod Values
 pub mod Counts
 pub mod Mutex
+pub mod Starts

@@ -11,7 +11,6 @@ use Rattle.term_core.specs.declared.machine.TermMachine.{TermMachine}
 use Rattle.lemma_strengthen.specs.declared.formula.Formula.{Formula}
 use Rattle.lemma_strengthen.specs.declared.formula.FormulaKind.TheVariants.{Invariant, NoFault}
 use Rattle.other_abstract.specs.declared.node.AbsNode.TheVariants.{Kept, Fired}
-use Rattle.other_abstract.specs.declared.value.AbsValue.{AbsValue}
 use Rattle.other_abstract.specs.declared.value.AbsValue.TheVariants.{Truth, Member}
 use Rattle.other_abstract.specs.declared.machine.AbstractMachine.{AbstractMachine}
 use Rattle.other_abstract.specs.May.{AbsCells}

@@ -1,9 +1,8 @@
 -- Terms, families and rules of the worked cases.
-use Rattle.std.specs.Prelude.{codes, ℕ, Bool, true, List, [], ◌∷◌}
+use Rattle.std.specs.Prelude.{ℕ, Bool, true, List, [], ◌∷◌}
 use Rattle.term_core.specs.declared.value.Value.{Value}
 use Rattle.term_core.specs.declared.value.Value.TheVariants as value
 use Rattle.term_core.specs.declared.value.Sort.{Sort}
-use Rattle.term_core.specs.declared.value.Sort.TheVariants as sort
 use Rattle.term_core.specs.declared.term.Term as t
 use Rattle.term_core.specs.declared.term.Term.{Term}
 use Rattle.term_core.specs.declared.machine.CellFamily.{CellFamily}

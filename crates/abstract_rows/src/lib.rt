@@ -5,6 +5,7 @@
 ghost use Rattle.abstract_rows.specs.Values.{OnlyIsAsWorked, OthersAreAsWorked, ReadsAreAsWorked};
 ghost use Rattle.abstract_rows.specs.Counts.{PatternsAreAsCounted, CellsAreAsCounted, RefusalsAreAsWorked};
 ghost use Rattle.abstract_rows.specs.Mutex.{PathIsAsWorked, ShortPathIsNone, ViolationsAreAsWorked};
+ghost use Rattle.abstract_rows.specs.Starts.{StartsAreAsWorked, FaultsAreAsWorked};
 
 /// What guards and reads may give in windows of one kept node.
 pub fn values_are_as_worked()
@@ -26,4 +27,10 @@ pub fn path_is_as_worked()
     ensures path { PathIsAsWorked }
     ensures short { ShortPathIsNone }
     ensures violations { ViolationsAreAsWorked }
+{}
+
+/// What starts may leave, and when a piece of one may be false.
+pub fn starts_are_as_worked()
+    ensures starts { StartsAreAsWorked }
+    ensures faults { FaultsAreAsWorked }
 {}

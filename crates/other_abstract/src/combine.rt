@@ -38,7 +38,8 @@ pub fn add_all(out: &mut ValueSet, more: &[AbsValue]) -> Result<(), Memory>
 
 /// The negations of values.
 pub fn negated(alloc: Global, values: &[AbsValue]) -> Result<ValueSet, Memory>
-    ensures { IfOk result (λ out. (p : AbsValue → Bool) → list_any p out ≡ list_any (λ x. p (Truth (not (truth x)))) values.now) }
+    ensures { IfOk result (λ out. (p : AbsValue → Bool) → list_any p out
+        ≡ list_any (λ x. p (Truth (not (truth x)))) values.now) }
 {
     let mut out = ValueSet::make(alloc);
     for value in values {
@@ -63,7 +64,8 @@ pub fn verdict(alloc: Global, all: bool, each: bool, other: bool) -> Result<Valu
 
 /// Adds what comparing two values may give: two that are Other may be one node or two.
 fn compare(out: &mut ValueSet, left: AbsValue, right: AbsValue) -> Result<(), Memory>
-    ensures { OnOk result ((p : AbsValue → Bool) → list_any p out.new ≡ (list_any p out.old || same_passes p left right)) }
+    ensures { OnOk result ((p : AbsValue → Bool) → list_any p out.new ≡ (list_any p out.old
+        || same_passes p left right)) }
 {
     match (left, right) {
         (AbsValue::Node(AbsNode::Other), AbsValue::Node(AbsNode::Other)) => {

@@ -10,7 +10,8 @@ ghost use Rattle.other_abstract.specs.declared.value.AbsValue.{AbsValue};
 ghost use Rattle.other_abstract.specs.May.{May};
 ghost use Rattle.other_abstract.specs.Tests.{may, may_fail, window_nodes};
 ghost use Rattle.other_abstract.specs.Lists.{window_in, IsScene};
-ghost use Rattle.other_abstract.specs.Machines.{window, fired_of, blank, IsPattern, FitsWindow, AbsFires, AbsStarts, MayFault, Violates};
+ghost use Rattle.other_abstract.specs.Machines.{window, fired_of, blank, IsPattern, FitsWindow, AbsFires, AbsStarts};
+ghost use Rattle.other_abstract.specs.Machines.{MayFault, Violates};
 ghost use Rattle.other_abstract.specs.Places.{places};
 ghost use Rattle.other_abstract.specs.Stepping.{is_step, is_start, may_fault};
 ghost use Rattle.other_abstract.specs.Making.{IsMade};
@@ -46,8 +47,10 @@ impl AbstractMachine {
         t: &Term,
     ) -> Result<ValueSet, Memory>
         requires { IsMade self.now }
-        ensures values { IfOk result (λ out. (x : AbsValue) → Contains out x ↔ May (window self.now fired) wide.now.values env.now t.now x) }
-        ensures tests { IfOk result (λ out. (p : AbsValue → Bool) → list_any p out ≡ may (window self.now fired) wide.now.values env.now t.now p) }
+        ensures values { IfOk result (λ out. (x : AbsValue) → Contains out x
+            ↔ May (window self.now fired) wide.now.values env.now t.now x) }
+        ensures tests { IfOk result (λ out. (p : AbsValue → Bool) → list_any p out
+            ≡ may (window self.now fired) wide.now.values env.now t.now p) }
     {
         let nodes = window_nodes(alloc, self.kept, fired)?;
         let scene = scene_of(self, fired, wide.values.as_slice(), nodes.as_slice());
@@ -60,7 +63,8 @@ impl AbstractMachine {
     pub fn starts(&self, start: u32, pattern: &Pattern, to: &AbsState) -> Result<bool, Memory>
         requires made { IsMade self.now }
         requires start { start < length self.now.machine.starts }
-        requires pattern { (r : TermRule) → slice_get self.now.machine.starts start ≡ Some r → IsPattern self.now.kept r pattern.now }
+        requires pattern { (r : TermRule) → slice_get self.now.machine.starts start ≡ Some r
+            → IsPattern self.now.kept r pattern.now }
         requires to { FitsWindow (window self.now 0) to.now.values }
         ensures { IfOk result (λ b. IsTrue b ↔ AbsStarts self.now start pattern.now to.now.values) }
     {
@@ -76,10 +80,13 @@ impl AbstractMachine {
     pub fn allows(&self, from: &AbsState, step: &AbsStep) -> Result<bool, Memory>
         requires made { IsMade self.now }
         requires rule { step.now.rule < length self.now.machine.rules }
-        requires pattern { (r : TermRule) → slice_get self.now.machine.rules step.now.rule ≡ Some r → IsPattern self.now.kept r step.now.pattern }
+        requires pattern { (r : TermRule) → slice_get self.now.machine.rules step.now.rule ≡ Some r
+            → IsPattern self.now.kept r step.now.pattern }
         requires wide { FitsWindow (window self.now (fired_of step.now.pattern)) step.now.wide.values }
         requires to { FitsWindow (window self.now 0) step.now.to.values }
-        ensures { IfOk result (λ b. IsTrue b ↔ AbsFires self.now from.now.values step.now.rule step.now.pattern step.now.wide.values step.now.to.values) }
+        ensures { IfOk result (λ b. IsTrue b
+            ↔ AbsFires self.now from.now.values step.now.rule step.now.pattern step.now.wide.values
+            step.now.to.values) }
     {
         lists_are_in_order();
         places_are_those_of_the_cells();
@@ -99,7 +106,8 @@ impl AbstractMachine {
     pub fn violates(&self, state: &AbsState, formula: u32) -> Result<bool, Memory>
         requires made { IsMade self.now }
         requires formula { formula < length self.now.formulas }
-        ensures { IfOk result (λ b. (f : Formula) → slice_get self.now.formulas formula ≡ Some f → IsTrue b ↔ Violates self.now state.now.values f) }
+        ensures { IfOk result (λ b. (f : Formula) → slice_get self.now.formulas formula ≡ Some f → IsTrue b
+            ↔ Violates self.now state.now.values f) }
     {
         let formula = &self.formulas.as_slice()[formula as usize];
         let b = may_fail(self, state.values.as_slice(), formula)?;
@@ -110,7 +118,8 @@ impl AbstractMachine {
     pub fn start_faults(&self, start: u32, pattern: &Pattern) -> Result<bool, Memory>
         requires made { IsMade self.now }
         requires start { start < length self.now.machine.starts }
-        ensures { IfOk result (λ b. (r : TermRule) → slice_get self.now.machine.starts start ≡ Some r → IsTrue b ↔ MayFault self.now r pattern.now) }
+        ensures { IfOk result (λ b. (r : TermRule) → slice_get self.now.machine.starts start ≡ Some r → IsTrue b
+            ↔ MayFault self.now r pattern.now) }
     {
         let rule = &self.machine.starts.as_slice()[start as usize];
         let b = may_fault(self, rule, pattern.nodes())?;

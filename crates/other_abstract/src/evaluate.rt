@@ -140,7 +140,8 @@ fn leads(
     at: &[Term],
 ) -> Result<Vec<Lead>, Memory>
     requires { IsScene scene.now }
-    ensures leads { IfOk result (λ out. AreLeads (window_in scene.now) scene.now.cells.now env.old.items at.now out.items) }
+    ensures leads { IfOk result (λ out. AreLeads
+        (window_in scene.now) scene.now.cells.now env.old.items at.now out.items) }
     ensures env { OnOk result (env.new.items ≡ env.old.items) }
 {
     let mut out = Vec::new(alloc);
@@ -162,8 +163,11 @@ fn tally_parts(
     wanted: bool,
 ) -> Result<Tally, Memory>
     requires { IsScene scene.now }
-    ensures each { IfOk result (λ out. out.each ≡ list_all (λ x. may (window_in scene.now) scene.now.cells.now env.old.items x (passes wanted)) parts.now) }
-    ensures other { IfOk result (λ out. out.other ≡ list_any (λ x. may (window_in scene.now) scene.now.cells.now env.old.items x (passes (not wanted))) parts.now) }
+    ensures each { IfOk result (λ out. out.each
+        ≡ list_all (λ x. may (window_in scene.now) scene.now.cells.now env.old.items x (passes wanted)) parts.now) }
+    ensures other { IfOk result (λ out. out.other
+        ≡ list_any (λ x. may (window_in scene.now) scene.now.cells.now env.old.items x (passes
+        (not wanted))) parts.now) }
     ensures env { OnOk result (env.new.items ≡ env.old.items) }
 {
     let mut out = Tally {
@@ -200,7 +204,8 @@ fn evaluate_at(
     body: &Term,
 ) -> Result<ValueSet, Memory>
     requires { IsScene scene.now }
-    ensures values { IfOk result (λ out. AreValues (window_in scene.now) scene.now.cells.now (env.old.items ++ node ∷ []) body.now out) }
+    ensures values { IfOk result (λ out. AreValues (window_in scene.now) scene.now.cells.now (env.old.items
+        ++ node ∷ []) body.now out) }
     ensures env { OnOk result (env.new.items ≡ env.old.items) }
 {
     env.push(node)?;
@@ -220,8 +225,12 @@ fn tally_nodes(
     wanted: bool,
 ) -> Result<Tally, Memory>
     requires { IsScene scene.now }
-    ensures each { IfOk result (λ out. out.each ≡ list_all (λ n. may (window_in scene.now) scene.now.cells.now (env.old.items ++ n ∷ []) body.now (passes wanted)) (window_nodes (window_in scene.now))) }
-    ensures other { IfOk result (λ out. out.other ≡ list_any (λ n. may (window_in scene.now) scene.now.cells.now (env.old.items ++ n ∷ []) body.now (passes (not wanted))) (window_nodes (window_in scene.now) ++ Other ∷ [])) }
+    ensures each { IfOk result (λ out. out.each
+        ≡ list_all (λ n. may (window_in scene.now) scene.now.cells.now (env.old.items
+        ++ n ∷ []) body.now (passes wanted)) (window_nodes (window_in scene.now))) }
+    ensures other { IfOk result (λ out. out.other
+        ≡ list_any (λ n. may (window_in scene.now) scene.now.cells.now (env.old.items
+        ++ n ∷ []) body.now (passes (not wanted))) (window_nodes (window_in scene.now) ++ Other ∷ [])) }
     ensures env { OnOk result (env.new.items ≡ env.old.items) }
 {
     let mut out = Tally {

@@ -1,6 +1,9 @@
 //! What holds of the abstract machine: laws, each on a function that does nothing.
 
-ghost use Rattle.other_abstract.specs.Laws.{ValuesMayBeHad, TestsSayWhatMayBe, ConjunctionsJoin, DisjunctionsJoin, StepsAreCovered, StartsAreCovered, StartFaultsAreCovered, SafeRunsAreCovered, InductiveRunsAreCovered, NoStartFaulty, PatternsAreListed};
+ghost use Rattle.other_abstract.specs.Laws.{ValuesMayBeHad, TestsSayWhatMayBe, ConjunctionsJoin, DisjunctionsJoin};
+ghost use Rattle.other_abstract.specs.Laws.{StepsAreCovered, StartsAreCovered, StartFaultsAreCovered};
+ghost use Rattle.other_abstract.specs.Laws.{SafeRunsAreCovered, InductiveRunsAreCovered, NoStartFaulty};
+ghost use Rattle.other_abstract.specs.Laws.{PatternsAreListed};
 
 use term_core::laws::{
     lists_are_in_order, places_are_those_of_the_cells, states_have_a_value_at_each_cell,

@@ -2,7 +2,8 @@
 
 #![tactic(auto, using(crate::proofs::MakingLemmas::making))]
 
-ghost use Rattle.std.specs.Prelude.{◌≡◌, ◌⊎◌, ℕ, ◌+◌, ◌≤◌, ◌^◌, max, nat_lt, Option, None, Some, length, slice_get, IfOk, IfErr, IsTrue};
+ghost use Rattle.std.specs.Prelude.{◌≡◌, ◌⊎◌, ℕ, ◌+◌, ◌≤◌, ◌^◌, max, nat_lt, Option, None, Some, length, slice_get};
+ghost use Rattle.std.specs.Prelude.{IfOk, IfErr, IsTrue};
 ghost use Rattle.std.specs.List.{All};
 ghost use Rattle.lemma_strengthen.specs.declared.formula.Formula.{Formula};
 ghost use Rattle.lemma_strengthen.specs.declared.formula.FormulaKind.TheVariants.{StartFault};
@@ -11,7 +12,8 @@ ghost use Rattle.term_core.specs.Firing.{node_parameters, is_node_value};
 ghost use Rattle.term_core.specs.Whole.{IsWhole};
 ghost use Rattle.other_abstract.specs.declared.making.MakeStop.TheVariants.{Memory, Prefix};
 ghost use Rattle.other_abstract.specs.Machines.{PrefixesFit};
-ghost use Rattle.other_abstract.specs.Making.{long_formula, long_start, most_parameters, cell_count, counted, refusal, too_many, largest_window, IsMade};
+ghost use Rattle.other_abstract.specs.Making.{long_formula, long_start, most_parameters, cell_count, counted};
+ghost use Rattle.other_abstract.specs.Making.{refusal, too_many, largest_window, IsMade};
 ghost use Rattle.other_abstract.specs.Laws.{CoversSteps, CoversStarts};
 
 use crate::laws::steps_are_covered;

@@ -25,7 +25,8 @@ impl AbstractMachine {
     pub fn patterns(&self, alloc: Global, rule: u32) -> Result<Vec<Pattern>, Memory>
         requires made { IsMade self.now }
         requires rule { rule < length self.now.machine.rules }
-        ensures { IfOk result (λ out. (r : TermRule) → slice_get self.now.machine.rules rule ≡ Some r → out.items ≡ patterns_of self.now.kept r) }
+        ensures { IfOk result (λ out. (r : TermRule) → slice_get self.now.machine.rules rule ≡ Some r → out.items
+            ≡ patterns_of self.now.kept r) }
     {
         let out = list_patterns(
             alloc,
@@ -39,7 +40,8 @@ impl AbstractMachine {
     pub fn start_patterns(&self, alloc: Global, start: u32) -> Result<Vec<Pattern>, Memory>
         requires made { IsMade self.now }
         requires start { start < length self.now.machine.starts }
-        ensures { IfOk result (λ out. (r : TermRule) → slice_get self.now.machine.starts start ≡ Some r → out.items ≡ patterns_of self.now.kept r) }
+        ensures { IfOk result (λ out. (r : TermRule) → slice_get self.now.machine.starts start ≡ Some r → out.items
+            ≡ patterns_of self.now.kept r) }
     {
         let out = list_patterns(
             alloc,
@@ -100,7 +102,8 @@ fn add_kept(
 ) -> Result<(), Memory>
     requires room { length front.old + (left + 1) ≤ 3 }
     requires used { fired + (left + 1) ≤ 3 }
-    ensures out { OnOk result (out.new.items ≡ out.old.items ++ flat_map (λ k. patterns_after kept fired left (front.old ++ Kept k ∷ [])) (nodes kept)) }
+    ensures out { OnOk result (out.new.items ≡ out.old.items
+        ++ flat_map (λ k. patterns_after kept fired left (front.old ++ Kept k ∷ [])) (nodes kept)) }
     ensures front { OnOk result (front.new ≡ front.old) }
 {
     for node in 0..kept {
@@ -123,7 +126,8 @@ fn add_fired(
 ) -> Result<(), Memory>
     requires room { length front.old + (left + 1) ≤ 3 }
     requires used { fired + (left + 1) ≤ 3 }
-    ensures out { OnOk result (out.new.items ≡ out.old.items ++ flat_map (λ k. patterns_after kept (max fired k) left (front.old ++ Fired k ∷ [])) (nodes (suc fired))) }
+    ensures out { OnOk result (out.new.items ≡ out.old.items
+        ++ flat_map (λ k. patterns_after kept (max fired k) left (front.old ++ Fired k ∷ [])) (nodes (suc fired))) }
     ensures front { OnOk result (front.new ≡ front.old) }
 {
     let count = fired + 1;

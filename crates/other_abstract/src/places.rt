@@ -125,7 +125,8 @@ fn add_places(
     family: usize,
     lists: &[Items<AbsNode>],
 ) -> Result<(), Memory>
-    ensures { OnOk result (out.new.items ≡ out.old.items ++ map (λ (at : List AbsNode). record { family = family; at = at }) lists.now) }
+    ensures { OnOk result (out.new.items ≡ out.old.items
+        ++ map (λ (at : List AbsNode). record { family = family; at = at }) lists.now) }
 {
     for list in lists {
         let at = Items::from_slice(alloc, list.as_slice())?;

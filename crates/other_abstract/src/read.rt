@@ -2,7 +2,8 @@
 
 #![tactic(auto, using(crate::proofs::ReadLemmas::reads))]
 
-ghost use Rattle.std.specs.Prelude.{◌≡◌, ◌+◌, ◌-◌, ◌*◌, ◌≤◌, ◌^◌, ◌<◌, ℕ, Bool, ◌&&◌, ◌||◌, map, length, slice_get, unwrap_or, IsTrue, [], ◌∷◌, ◌++◌, IfOk, OnOk, SomeIff, ◌+ℤ◌, ◌-ℤ◌, ◌≤ℤ◌, pos};
+ghost use Rattle.std.specs.Prelude.{◌≡◌, ◌+◌, ◌-◌, ◌*◌, ◌≤◌, ◌^◌, ◌<◌, ℕ, Bool, ◌&&◌, ◌||◌, map, length, slice_get};
+ghost use Rattle.std.specs.Prelude.{unwrap_or, IsTrue, [], ◌∷◌, ◌++◌, IfOk, OnOk, SomeIff, ◌+ℤ◌, ◌-ℤ◌, ◌≤ℤ◌, pos};
 ghost use Rattle.std.specs.List.{list_all, list_any};
 ghost use Rattle.term_core.specs.Nodes.{is_node, nodes_from};
 ghost use Rattle.term_core.specs.Whole.{members_in_range};
@@ -75,7 +76,8 @@ fn is_cell(scene: &Scene, family: usize, nodes: &[AbsNode]) -> bool
 
 /// How many cells the families before this one have, if they are fewer than 2^64.
 fn first_place(scene: &Scene, family: usize) -> Option<usize>
-    ensures { let p = first_place (size (window_in scene.now)) scene.now.families.now family in SomeIff result (p < 2 ^ 64) p }
+    ensures { let p = first_place (size (window_in scene.now)) scene.now.families.now family in SomeIff result
+        (p < 2 ^ 64) p }
 {
     let nodes = size(scene);
     let count = scene.families.len().min(family);
@@ -107,7 +109,8 @@ fn next_before(scene: &Scene, before: usize, node: AbsNode) -> Option<usize>
 /// How many choices of as many nodes stand before this one, if they are fewer than 2^64.
 fn choice_place(scene: &Scene, nodes: &[AbsNode]) -> Option<usize>
     requires { 1 ≤ size (window_in scene.now) }
-    ensures { let p = choices_before (size (window_in scene.now)) scene.now.kept 0 nodes.now in SomeIff result (p < 2 ^ 64) p }
+    ensures { let p = choices_before (size (window_in scene.now)) scene.now.kept 0 nodes.now in SomeIff result
+        (p < 2 ^ 64) p }
 {
     let mut before: usize = 0;
     for node in nodes {

@@ -46,7 +46,8 @@ pub(crate) fn blank_cells(
     nodes: &[AbsNode],
     families: &[CellFamily],
 ) -> Result<Vec<AbsValue>, Memory>
-    ensures { IfOk result (λ out. out.items ≡ map (λ (place : Place). blank_of families.now place.family) (places_in nodes.now 0 families.now)) }
+    ensures { IfOk result (λ out. out.items
+        ≡ map (λ (place : Place). blank_of families.now place.family) (places_in nodes.now 0 families.now)) }
 {
     let places = places_in(alloc, nodes, families)?;
     let out = blank_values(alloc, families, places.as_slice())?;
@@ -121,7 +122,8 @@ fn settled(scene: &Scene, family: usize, value: AbsValue) -> AbsValue
 
 /// Whether one of the values is this, fired nodes read as Other, and settled in the kept window.
 fn has_settled(kept: &Scene, family: usize, values: &[AbsValue], wanted: AbsValue) -> bool
-    ensures { result ≡ list_any (λ x. same_value (settled (window_in kept.now) family (read_kept x)) wanted) values.now }
+    ensures { result ≡ list_any (λ x. same_value (settled (window_in kept.now) family
+        (read_kept x)) wanted) values.now }
 {
     for value in values {
         if settled(kept, family, read_kept(*value)).is_same(wanted) {
@@ -143,7 +145,9 @@ fn may_begin(
 ) -> Result<bool, Memory>
     requires scene { IsScene scene.now }
     requires cells { scene.now.cells.now ≡ blank (window_in scene.now) }
-    ensures { IfOk result (λ b. b ≡ may_begin (window_in kept.now) (window_in scene.now) pattern.now (update_for updates.now place.now.family) place.now new) }
+    ensures { IfOk result (λ b. b
+        ≡ may_begin (window_in kept.now) (window_in scene.now) pattern.now
+        (update_for updates.now place.now.family) place.now new) }
 {
     let b = match updated(alloc, scene, pattern, updates, place)? {
         Some(values) => has_settled(kept, place.family, values.values(), new),
@@ -164,7 +168,9 @@ pub(crate) fn all_begin(
     requires scene { IsScene scene.now }
     requires cells { scene.now.cells.now ≡ blank (window_in scene.now) }
     requires kept { IsScene kept.now }
-    ensures { IfOk result (λ b. b ≡ list_all (begins (window_in kept.now) (window_in scene.now) kept.now.cells.now updates.now pattern.now) places.now) }
+    ensures { IfOk result (λ b. b
+        ≡ list_all (begins (window_in kept.now)
+        (window_in scene.now) kept.now.cells.now updates.now pattern.now) places.now) }
 {
     for place in places {
         let new = cell_value(kept, place.family, place.at.as_slice());
@@ -187,7 +193,8 @@ pub(crate) fn pieces_may_fail(
     requires scene { IsScene scene.now }
     requires cells { scene.now.cells.now ≡ blank (window_in scene.now) }
     requires kept { IsScene kept.now }
-    ensures { IfOk result (λ b. b ≡ list_any (piece_may_fail (window_in kept.now) (window_in scene.now) pattern.now) pieces.now) }
+    ensures { IfOk result (λ b. b
+        ≡ list_any (piece_may_fail (window_in kept.now) (window_in scene.now) pattern.now) pieces.now) }
 {
     for piece in pieces {
         let fails = piece_may_fail(alloc, scene, kept, pattern, piece)?;

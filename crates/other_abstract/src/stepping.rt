@@ -11,7 +11,8 @@ ghost use Rattle.other_abstract.specs.Windows.{same_value};
 ghost use Rattle.other_abstract.specs.Tests.{passes, may, may_hold};
 ghost use Rattle.other_abstract.specs.Lists.{window_in, IsScene};
 ghost use Rattle.other_abstract.specs.Machines.{read_kept, fired_of};
-ghost use Rattle.other_abstract.specs.Stepping.{same_values, kept_value, may_become, becomes, all_may_hold, AreNewValues};
+ghost use Rattle.other_abstract.specs.Stepping.{same_values, kept_value, may_become, becomes, all_may_hold};
+ghost use Rattle.other_abstract.specs.Stepping.{AreNewValues};
 
 use crate::evaluate::evaluate;
 use crate::node::AbsNode;
@@ -100,7 +101,8 @@ pub(crate) fn may_be(
     wanted: bool,
 ) -> Result<bool, Memory>
     requires { IsScene scene.now }
-    ensures { IfOk result (λ b. b ≡ may (window_in scene.now) scene.now.cells.now (front.now ++ back.now) body.now (passes wanted)) }
+    ensures { IfOk result (λ b. b ≡ may (window_in scene.now) scene.now.cells.now (front.now
+        ++ back.now) body.now (passes wanted)) }
 {
     let mut env = joined(alloc, front, back)?;
     let values = evaluate(alloc, scene, &mut env, body)?;
@@ -115,7 +117,8 @@ fn may_hold_at(
     body: &Term,
 ) -> Result<bool, Memory>
     requires { IsScene scene.now }
-    ensures { IfOk result (λ b. b ≡ list_all (λ ns. may (window_in scene.now) scene.now.cells.now ns body.now (passes true)) lists.now) }
+    ensures { IfOk result (λ b. b
+        ≡ list_all (λ ns. may (window_in scene.now) scene.now.cells.now ns body.now (passes true)) lists.now) }
 {
     for list in lists {
         let holds = may_be(alloc, scene, &[], list.as_slice(), body, true)?;
@@ -135,7 +138,8 @@ pub(crate) fn may_fail_at(
     body: &Term,
 ) -> Result<bool, Memory>
     requires { IsScene scene.now }
-    ensures { IfOk result (λ b. b ≡ list_any (λ ns. may (window_in scene.now) scene.now.cells.now (front.now ++ ns) body.now (passes false)) lists.now) }
+    ensures { IfOk result (λ b. b ≡ list_any (λ ns. may (window_in scene.now) scene.now.cells.now (front.now
+        ++ ns) body.now (passes false)) lists.now) }
 {
     for list in lists {
         let fails = may_be(alloc, scene, front, list.as_slice(), body, false)?;
@@ -149,7 +153,8 @@ pub(crate) fn may_fail_at(
 /// Whether a formula may hold for all nodes of the window.
 fn may_hold(alloc: Global, scene: &Scene, formula: &Formula) -> Result<bool, Memory>
     requires { IsScene scene.now }
-    ensures { IfOk result (λ b. b ≡ may_hold (window_in scene.now) scene.now.cells.now formula.now.prefix formula.now.body) }
+    ensures { IfOk result (λ b. b
+        ≡ may_hold (window_in scene.now) scene.now.cells.now formula.now.prefix formula.now.body) }
 {
     let lists = lists_of(alloc, scene.nodes, formula.prefix)?;
     let b = may_hold_at(alloc, scene, lists.as_slice(), &formula.body)?;
@@ -183,7 +188,8 @@ pub(crate) fn updated(
     place: &Place,
 ) -> Result<Option<ValueSet>, Memory>
     requires { IsScene scene.now }
-    ensures { IfOk result (λ out. AreNewValues (window_in scene.now) scene.now.cells.now (pattern.now ++ place.now.at) (update_for updates.now place.now.family) out) }
+    ensures { IfOk result (λ out. AreNewValues (window_in scene.now) scene.now.cells.now (pattern.now
+        ++ place.now.at) (update_for updates.now place.now.family) out) }
 {
     for update in updates {
         if update.family as usize == place.family {
@@ -217,7 +223,9 @@ fn may_become(
     new: AbsValue,
 ) -> Result<bool, Memory>
     requires { IsScene scene.now }
-    ensures { IfOk result (λ b. b ≡ may_become (window_in scene.now) scene.now.cells.now pattern.now (update_for updates.now place.now.family) place.now new) }
+    ensures { IfOk result (λ b. b
+        ≡ may_become (window_in scene.now) scene.now.cells.now pattern.now
+        (update_for updates.now place.now.family) place.now new) }
 {
     let b = match updated(alloc, scene, pattern, updates, place)? {
         Some(values) => has_kept(values.values(), new),
@@ -237,7 +245,9 @@ pub(crate) fn all_become(
 ) -> Result<bool, Memory>
     requires scene { IsScene scene.now }
     requires next { IsScene next.now }
-    ensures { IfOk result (λ b. b ≡ list_all (becomes (window_in next.now) (window_in scene.now) scene.now.cells.now next.now.cells.now updates.now pattern.now) places.now) }
+    ensures { IfOk result (λ b. b
+        ≡ list_all (becomes (window_in next.now)
+        (window_in scene.now) scene.now.cells.now next.now.cells.now updates.now pattern.now) places.now) }
 {
     for place in places {
         let new = cell_value(next, place.family, place.at.as_slice());
