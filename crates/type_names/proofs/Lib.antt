@@ -4,3 +4,4 @@ pub mod PartLemmas
 pub mod ExprEquations
 pub mod BodyEquations
 pub mod WholeEquations
+pub mod FormulaLemmas

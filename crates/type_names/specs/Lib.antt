@@ -4,4 +4,5 @@ pub mod Parts
 pub mod Gathering
 pub mod Bodies
 pub mod Wholes
+pub mod Known
 pub mod Laws

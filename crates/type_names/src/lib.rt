@@ -2,6 +2,7 @@
 #![tactic(auto)]
 
 pub mod expressions;
+pub mod formulas;
 pub mod gathered;
 pub mod laws;
 pub mod scope;

@@ -1,5 +1,5 @@
--- The walk over expressions and statements, from left to right: inside how many levels a part stands, and what the parts
--- before it gave.
+-- The walk over expressions and statements, from left to right: inside how many levels a part stands, and what the
+-- parts before it gave.
 use Rattle.std.specs.Prelude.{ℕ, ◌+◌, List, [], ◌∷◌, ◌++◌}
 use Rattle.murphi_typed.specs.declared.expr.Expr as x
 use Rattle.murphi_typed.specs.declared.expr.Expr.{Expr, end_of-Expr, more_of-Expr, Row_of-Link, end_of-Link, more_of-Link}
