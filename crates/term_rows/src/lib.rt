@@ -3,8 +3,6 @@
 #![tactic(auto)]
 
 #[cfg(test)]
-mod both_sides;
-#[cfg(test)]
 mod copies;
 #[cfg(test)]
 mod opening;

@@ -15,14 +15,14 @@ use term_core::text::{Memory, Text};
 
 /// A piece, the length of the prefix, and the text of the opened body.
 #[derive(Clone, Copy)]
-pub struct Row {
-    pub binders: u32,
-    pub steps: &'static [Make],
-    pub length: u32,
+struct Row {
+    binders: u32,
+    steps: &'static [Make],
+    length: u32,
     opened: &'static [u8],
 }
 
-pub const ROWS: [Row; 18] = [
+const ROWS: [Row; 18] = [
     // all i, all j: m[i][j]
     Row {
         binders: 0,
@@ -248,7 +248,7 @@ pub const ROWS: [Row; 18] = [
 ];
 
 /// The formulas of a piece.
-pub fn opened(alloc: Global, row: Row) -> Result<Items<Formula>, Memory> {
+fn opened(alloc: Global, row: Row) -> Result<Items<Formula>, Memory> {
     let body = term(alloc, row.steps)?;
     let mut pieces = Items::new(alloc);
     if row.binders <= row.length {

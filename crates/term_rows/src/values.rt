@@ -160,7 +160,7 @@ pub fn machine(alloc: Global) -> Result<TermMachine, Memory> {
 }
 
 /// Gives a cell a value, if there is such a cell and it may have it.
-pub fn put(state: &mut NodeState, family: u32, at: &[u32], value: Value) -> bool {
+fn put(state: &mut NodeState, family: u32, at: &[u32], value: Value) -> bool {
     if !state.has_cell(family, at) {
         return false;
     }
