@@ -7,5 +7,6 @@ pub mod expr;
 pub mod laws;
 pub mod prefix;
 pub mod protocol;
+pub mod shared;
 pub mod stmt;
 pub mod types;

@@ -1,6 +1,7 @@
 //! Variables, routines, rules, start states, formulas, and the whole typed protocol.
 
 use crate::expr::Expr;
+use crate::shared::Shared;
 use crate::stmt::Stmt;
 use crate::types::{AnyType, Kind, Simple};
 use murphi_ast::text::Text;
@@ -110,7 +111,7 @@ pub struct NodeType {
 #[derive(Drop)]
 pub enum Entity {
     Constant(i16),
-    TypeName(AnyType),
+    TypeName(Shared<AnyType>),
     Variable(u32),
     Member { kind: u32, index: u8, count: u16 },
     Routine(u32),
@@ -125,15 +126,16 @@ pub struct Declared {
 
 /// A typed protocol. Globals, routines, start states, rules and invariants stand in text order. `names`
 /// are all global names in the order in which they are declared, and `weights` are those of the bodies
-/// of the routines, in their order: both are for the typing of lemmas. A weight that a u64 cannot hold is
-/// the greatest u64. There is no node type where none is named.
+/// of the routines, in their order: both are for the typing of lemmas, which shares the routines and
+/// copies none. A weight that a u64 cannot hold is the greatest u64. There is no node type where none is
+/// named.
 #[derive(Drop)]
 pub struct Typed {
     pub names: Items<Declared>,
     pub kinds: Items<Kind>,
     pub node: Option<NodeType>,
     pub globals: Items<Variable>,
-    pub routines: Items<Routine>,
+    pub routines: Items<Shared<Routine>>,
     pub weights: Items<u64>,
     pub starts: Items<Start>,
     pub rules: Items<Rule>,

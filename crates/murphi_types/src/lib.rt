@@ -6,4 +6,3 @@ pub mod fault;
 pub mod laws;
 pub mod names;
 pub mod scope;
-pub mod shared;

@@ -3,10 +3,10 @@
 ghost use Rattle.std.specs.Prelude.{◌≡◌, IfOk};
 
 use crate::names::Names;
-use crate::shared::Shared;
 use murphi_ast::text::{Memory, Text};
 use murphi_typed::expr::Root;
 use murphi_typed::protocol::{Routine, Variable};
+use murphi_typed::shared::Shared;
 use murphi_typed::types::{AnyType, Kind, Simple};
 use sqlite_items::Items;
 

@@ -17,6 +17,7 @@ use murphi_ast::token::Span;
 use murphi_typed::protocol::{
     Formal, NodeType, Parameter, Routine, Rule, Start, Typed, TypedFormula, WrittenSize,
 };
+use murphi_typed::shared::Shared;
 use murphi_typed::stmt::Stmt;
 use sqlite_items::Items;
 use std::alloc::Global;
@@ -89,12 +90,12 @@ fn clears(typed: &Typed) -> Option<Break>
     first_of(routines, first_of(starts, rules))
 }
 
-fn routine_clears(all: &[Routine]) -> Option<Break>
+fn routine_clears(all: &[Shared<Routine>]) -> Option<Break>
     ensures { result ≡ first_routine_clears all.now }
 {
     let mut first = None;
     for r in all {
-        first = first_of(first, scan_body(Want::Clear, &r.body));
+        first = first_of(first, scan_body(Want::Clear, &r.get().body));
     }
     first
 }
@@ -157,7 +158,7 @@ fn size_of(size: &WrittenSize, at: Span) -> Option<Break>
 /// The breaks in a body but for S3.
 fn body_of(
     alloc: Global,
-    routines: &[Routine],
+    routines: &[Shared<Routine>],
     bound: u32,
     stands: &[Stand],
     body: &Stmt,
@@ -209,7 +210,7 @@ fn count(params: &[Parameter]) -> Result<u32, Memory>
     }
 }
 
-fn routine_of(alloc: Global, all: &[Routine], r: &Routine) -> Result<Option<Break>, Memory>
+fn routine_of(alloc: Global, all: &[Shared<Routine>], r: &Routine) -> Result<Option<Break>, Memory>
     ensures { IfOk result (λ b. b ≡ first_break (routine_breaks all.now r.now)) }
 {
     let stands = own_stands(alloc, r.formals.as_slice())?;
@@ -220,12 +221,16 @@ fn routine_of(alloc: Global, all: &[Routine], r: &Routine) -> Result<Option<Brea
     }
 }
 
-fn routines_of(alloc: Global, all: &[Routine], some: &[Routine]) -> Result<Option<Break>, Memory>
+fn routines_of(
+    alloc: Global,
+    all: &[Shared<Routine>],
+    some: &[Shared<Routine>],
+) -> Result<Option<Break>, Memory>
     ensures { IfOk result (λ b. b ≡ first_routines all.now some.now) }
 {
     let mut first = None;
     for r in some {
-        let more = routine_of(alloc, all, r)?;
+        let more = routine_of(alloc, all, r.get())?;
         first = first_of(first, more);
     }
     Ok(first)
@@ -233,7 +238,7 @@ fn routines_of(alloc: Global, all: &[Routine], some: &[Routine]) -> Result<Optio
 
 fn top_of(
     alloc: Global,
-    all: &[Routine],
+    all: &[Shared<Routine>],
     params: &[Parameter],
     body: &Stmt,
 ) -> Result<Option<Break>, Memory>
@@ -245,7 +250,11 @@ fn top_of(
     Ok(b)
 }
 
-fn starts_of(alloc: Global, all: &[Routine], some: &[Start]) -> Result<Option<Break>, Memory>
+fn starts_of(
+    alloc: Global,
+    all: &[Shared<Routine>],
+    some: &[Start],
+) -> Result<Option<Break>, Memory>
     ensures { IfOk result (λ b. b ≡ first_starts all.now some.now) }
 {
     let mut first = None;
@@ -256,7 +265,7 @@ fn starts_of(alloc: Global, all: &[Routine], some: &[Start]) -> Result<Option<Br
     Ok(first)
 }
 
-fn rules_of(alloc: Global, all: &[Routine], some: &[Rule]) -> Result<Option<Break>, Memory>
+fn rules_of(alloc: Global, all: &[Shared<Routine>], some: &[Rule]) -> Result<Option<Break>, Memory>
     ensures { IfOk result (λ b. b ≡ first_rules all.now some.now) }
 {
     let mut first = None;

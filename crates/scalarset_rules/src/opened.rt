@@ -14,6 +14,7 @@ use crate::touch::touches;
 use murphi_ast::text::Memory;
 use murphi_ast::token::Span;
 use murphi_typed::protocol::Routine;
+use murphi_typed::shared::Shared;
 use sqlite_items::{Items, at};
 use std::alloc::Global;
 
@@ -76,7 +77,7 @@ pub(crate) fn deeper(depth: u32) -> Result<Level, Memory>
 #[cycle(opening)]
 pub(crate) fn open_all(
     alloc: Global,
-    routines: &[Routine],
+    routines: &[Shared<Routine>],
     depth: u32,
     by: Option<Span>,
     pieces: &[Piece],
@@ -94,7 +95,7 @@ pub(crate) fn open_all(
 #[cycle(opening)]
 fn open_one(
     alloc: Global,
-    routines: &[Routine],
+    routines: &[Shared<Routine>],
     depth: u32,
     by: Option<Span>,
     piece: &Piece,
@@ -121,7 +122,7 @@ fn open_one(
 #[cycle(opening)]
 fn enter(
     alloc: Global,
-    routines: &[Routine],
+    routines: &[Shared<Routine>],
     depth: u32,
     call: Span,
     routine: u32,
@@ -137,7 +138,7 @@ fn enter(
         None => Ok(Items::new(alloc)),
         Some(r) => {
             let level = deeper(depth)?;
-            let pieces = touches(alloc, level, stands, &r.body)?;
+            let pieces = touches(alloc, level, stands, &r.get().body)?;
             let out = open_all(
                 alloc,
                 &routines[..k],

@@ -17,6 +17,7 @@ use crate::shape::Stand;
 use murphi_ast::text::Memory;
 use murphi_ast::token::Span;
 use murphi_typed::protocol::Routine;
+use murphi_typed::shared::Shared;
 use murphi_typed::stmt::Stmt;
 use sqlite_items::at;
 use std::alloc::Global;
@@ -25,7 +26,7 @@ use std::alloc::Global;
 #[cycle(within)]
 fn judge_all(
     alloc: Global,
-    routines: &[Routine],
+    routines: &[Shared<Routine>],
     depth: u32,
     by: Option<Span>,
     all: &[LoopPiece],
@@ -43,7 +44,7 @@ fn judge_all(
 #[cycle(within)]
 fn judge_one(
     alloc: Global,
-    routines: &[Routine],
+    routines: &[Shared<Routine>],
     depth: u32,
     by: Option<Span>,
     one: &LoopPiece,
@@ -70,7 +71,7 @@ fn judge_one(
 #[cycle(within)]
 fn enter_loops(
     alloc: Global,
-    routines: &[Routine],
+    routines: &[Shared<Routine>],
     depth: u32,
     call: Span,
     routine: u32,
@@ -86,7 +87,7 @@ fn enter_loops(
         None => Ok(None),
         Some(r) => {
             let level = deeper(depth)?;
-            let all = loops_of(alloc, level, stands, &r.body)?;
+            let all = loops_of(alloc, level, stands, &r.get().body)?;
             let b = judge_all(
                 alloc,
                 &routines[..k],
@@ -102,7 +103,7 @@ fn enter_loops(
 /// The first break of the loops of a body, with all calls opened.
 pub(crate) fn body_break(
     alloc: Global,
-    routines: &[Routine],
+    routines: &[Shared<Routine>],
     level: Level,
     stands: &[Stand],
     body: &Stmt,

@@ -33,8 +33,8 @@ use murphi_ast::expr::{Designator, Expr, FieldDecl, Link, Named, Selector, TypeE
 use murphi_ast::text::{Memory, Text};
 use murphi_ast::token::Span;
 use murphi_typed::protocol::{Formal, Routine};
+use murphi_typed::shared::Shared;
 use murphi_typed::types::{AnyType, Simple};
-use murphi_types::shared::Shared;
 use sqlite_items::Items;
 use std::alloc::Global;
 use type_forms::calls::{call_made, callee, formal_at, more_arguments, placed, valued};

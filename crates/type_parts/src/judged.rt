@@ -4,9 +4,9 @@
 use murphi_ast::token::Span;
 use murphi_typed::expr::{Argument, Expr, Link, Root, Selector};
 use murphi_typed::protocol::Routine;
+use murphi_typed::shared::Shared;
 use murphi_typed::types::{AnyType, Field};
 use murphi_types::fault::Fault;
-use murphi_types::shared::Shared;
 use sqlite_items::Items;
 
 /// An expression.

@@ -13,8 +13,8 @@ use crate::statements::walk_stmt;
 use murphi_ast::text::Memory;
 use murphi_typed::expr::Expr;
 use murphi_typed::protocol::{Guard, Parameter, Routine};
+use murphi_typed::shared::Shared;
 use murphi_typed::stmt::Stmt;
-use murphi_types::shared::Shared;
 use sqlite_items::Items;
 use std::alloc::Global;
 
