@@ -130,7 +130,8 @@ status_of ending.Memory = 6
 -- what is claimed of a call that ends so
 abbrev pub EndsAs : Call → Ending → Type 0
 EndsAs c ending.Proved = (p : Protocol) × Reports c (outcome.Proved p)
-EndsAs c ending.NotInductive = (p : Protocol) × (finding : Finding) × (formula : Formula) × Reports c (outcome.NotInductive p finding formula)
+EndsAs c ending.NotInductive =
+    (p : Protocol) × (finding : Finding) × (formula : Formula) × Reports c (outcome.NotInductive p finding formula)
 EndsAs c ending.Refused = (refusal : Refusal) × Reports c (outcome.Refused refusal)
 EndsAs c ending.ReadFailed = ReadFault c
 EndsAs c ending.WriteFailed = (o : Outcome) × WriteFault c o

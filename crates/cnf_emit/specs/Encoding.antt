@@ -28,4 +28,5 @@ pub record Encodes (c : Network) (marks : List Bool) (s : Sketch) : Type 0 where
   pub extends : (x : ℕ → Bool) → Extends s.variables s.clauses c.inputs x
   pub unique : IsUnique s.variables s.clauses c.inputs
   pub placed : (n : ℕ) → n < length s.lits → is_marked marks n ≡ true → variable_of (node_lit s.lits n) < s.variables
-  pub values : (a : List Bool) → all_true a s.clauses ≡ true → (n : ℕ) → n < length s.lits → is_marked marks n ≡ true → literal_true a (node_lit s.lits n) ≡ node_value c (value_of a) n
+  pub values : (a : List Bool) → all_true a s.clauses ≡ true → (n : ℕ) → n < length s.lits →
+      is_marked marks n ≡ true → literal_true a (node_lit s.lits n) ≡ node_value c (value_of a) n

@@ -32,4 +32,6 @@ InstancesHaveValues =
 abbrev pub InstancesSayBody : Type 0
 InstancesSayBody =
     (N : ℕ) (cells : Cells) (window : List ℕ) (prefix : ℕ) (body : Term)
-    → All (λ x. IsTrue (holds N cells window x)) (instances (length window) prefix body) ↔ ((ns : List ℕ) → length ns ≡ prefix → AreNodes (length window) ns → IsTrue (holds N cells (chosen window ns) body))
+    → All (λ x. IsTrue (holds N cells window x)) (instances (length window) prefix body)
+    ↔ ((ns : List ℕ) → length ns ≡ prefix → AreNodes (length window) ns
+    → IsTrue (holds N cells (chosen window ns) body))

@@ -17,7 +17,8 @@ turn_taken sign left (x ∷ xs) = taken sign left x + turn_taken sign (left - ta
 
 abbrev pub turn_opened : ℕ → Bool → List Term → ℕ → ℕ → List Term → List Term
 turn_opened to sign vs next left [] = []
-turn_opened to sign vs next left (x ∷ xs) = opened to sign vs next left x ∷ turn_opened to sign vs (next + taken sign left x) (left - taken sign left x) xs
+turn_opened to sign vs next left (x ∷ xs) =
+    opened to sign vs next left x ∷ turn_opened to sign vs (next + taken sign left x) (left - taken sign left x) xs
 
 -- the instances of a body where the window nodes of its first variables are chosen, with so many left
 abbrev pub instances_after : ℕ → Term → ℕ → List Term → List Term

@@ -55,14 +55,20 @@ unfoldable mutual
   taken sign left (NotForm body) = taken (not sign) left body
   taken sign left (t.And' _ parts) = row_taken sign sign left parts
   taken sign left (t.Or' _ parts) = row_taken (not sign) sign left parts
-  taken sign left (IfForm test then' else') = if splits test then' else' then max (taken false left test + taken sign (left - taken false left test) then') (taken true left test + taken sign (left - taken true left test) else') else 0
+  taken sign left (IfForm test then' else') =
+      if splits test then' else'
+      then max (taken false left test + taken sign (left - taken false left test) then')
+      (taken true left test + taken sign (left - taken true left test) else')
+      else 0
   taken sign left (QuantifiedForm all body) = if takes sign all left then suc (taken sign (left - 1) body) else 0
   taken sign left other = 0
 
   -- the same of parts, which share the variables or take them in order
   pub row_taken : {n : _} → Bool → Bool → ℕ → Row_of-Term n → ℕ
   row_taken shares sign left end_of-Term = 0
-  row_taken shares sign left (more_of-Term first rest) = both_take shares (taken sign left first) (row_taken shares sign (left - passed shares (taken sign left first)) rest)
+  row_taken shares sign left (more_of-Term first rest) =
+      both_take shares (taken sign left first)
+      (row_taken shares sign (left - passed shares (taken sign left first)) rest)
 
 unfoldable mutual
   -- the term, or its negation, opened for a prefix of `to` variables, of which so many are left from `next`
@@ -72,14 +78,25 @@ unfoldable mutual
   opened to sign vs next left (NotForm body) = opened to (not sign) vs next left body
   opened to sign vs next left (t.And' _ parts) = joined sign (row_opened to sign sign vs next left parts)
   opened to sign vs next left (t.Or' _ parts) = joined (not sign) (row_opened to (not sign) sign vs next left parts)
-  opened to sign vs next left (IfForm test then' else') = if splits test then' else' then t.And (t.Or (opened to false vs next left test ∷ opened to sign vs (next + taken false left test) (left - taken false left test) then' ∷ []) ∷ t.Or (opened to true vs next left test ∷ opened to sign vs (next + taken true left test) (left - taken true left test) else' ∷ []) ∷ []) else signed sign (placed to vs (IfForm test then' else'))
-  opened to sign vs next left (QuantifiedForm all body) = if takes sign all left then opened to sign (vs ++ t.Var next ∷ []) (suc next) (left - 1) body else placed to vs (quantified sign all body)
+  opened to sign vs next left (IfForm test then' else') =
+      if splits test then' else'
+      then t.And (t.Or (opened to false vs next left test
+      ∷ opened to sign vs (next + taken false left test) (left - taken false left test) then' ∷ [])
+      ∷ t.Or (opened to true vs next left test
+      ∷ opened to sign vs (next + taken true left test) (left - taken true left test) else' ∷ []) ∷ [])
+      else signed sign (placed to vs (IfForm test then' else'))
+  opened to sign vs next left (QuantifiedForm all body) =
+      if takes sign all left then opened to sign (vs ++ t.Var next ∷ []) (suc next) (left - 1) body
+      else placed to vs (quantified sign all body)
   opened to sign vs next left other = signed sign (placed to vs other)
 
   -- the parts, which share the variables or take them in order
   pub row_opened : {n : _} → ℕ → Bool → Bool → List Term → ℕ → ℕ → Row_of-Term n → List Term
   row_opened to shares sign vs next left end_of-Term = []
-  row_opened to shares sign vs next left (more_of-Term first rest) = opened to sign vs next left first ∷ row_opened to shares sign vs (next + passed shares (taken sign left first)) (left - passed shares (taken sign left first)) rest
+  row_opened to shares sign vs next left (more_of-Term first rest) =
+      opened to sign vs next left first
+      ∷ row_opened to shares sign vs (next + passed shares (taken sign left first))
+      (left - passed shares (taken sign left first)) rest
 
 -- the variables from 0 on
 abbrev pub variables : ℕ → List Term

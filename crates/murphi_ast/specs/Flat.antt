@@ -120,7 +120,8 @@ pub record IsBuilt (bytes : List ℕ) (p : Protocol) : Type 0 where
 -- the place of what is not built: the first such word, or else the ninth name
 pub data IsUnbuilt : List ℕ → Span → Type 0 where
   other_word : {bytes : List ℕ} {at : Span} → FirstOtherWord bytes (Some at) → IsUnbuilt bytes at
-  ninth_name : {bytes : List ℕ} {at : Span} (p : Protocol) → FirstOtherWord bytes None → SpellsFlat bytes p → slice_get (variable_places p) greatest_variables ≡ Some at → IsUnbuilt bytes at
+  ninth_name : {bytes : List ℕ} {at : Span} (p : Protocol) → FirstOtherWord bytes None → SpellsFlat bytes p →
+      slice_get (variable_places p) greatest_variables ≡ Some at → IsUnbuilt bytes at
 
 -- no such word stands in the bytes, and they spell no flat protocol
 pub record IsNotFlat (bytes : List ℕ) : Type 0 where

@@ -120,6 +120,7 @@ with_front front (Ok (xs, next)) = Ok (front ++ xs, next)
 with_front front (Err s) = Err s
 
 -- so far these were read of a list: what is answered of the rest is answered of the whole, with them in front
-unfoldable pub SoFar : {A : Type 0} (rest : Part) → (TreeOf Token Value rest → List A) → (whole : Part) → (TreeOf Token Value whole → List A) → ℕ → List Token → ℕ → ℕ → List A → Type 0
+unfoldable pub SoFar : {A : Type 0} (rest : Part) → (TreeOf Token Value rest → List A) → (whole : Part) →
+    (TreeOf Token Value whole → List A) → ℕ → List Token → ℕ → ℕ → List A → Type 0
 SoFar {A} rest made whole gives n ts from at front =
     (r : Result (List A × ℕ) Stop) → Gives rest made n ts at r → Gives whole gives n ts from (with_front front r)

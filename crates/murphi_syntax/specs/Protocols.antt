@@ -85,7 +85,8 @@ ended ends item rest = if ends (head rest) then Some (item, tail rest) else None
 
 -- behind the guard of a rule
 abbrev pub guarded_by : (List Token → Read (List Stmt)) → Option Text → Span → Expr → Terminal → List Token → Read RuleDecl
-guarded_by body string at guard t.Then rest = after (λ stmts rest'. ended ends_rule (Rule string (Some guard) [] stmts at) rest') (body (tail rest))
+guarded_by body string at guard t.Then rest =
+    after (λ stmts rest'. ended ends_rule (Rule string (Some guard) [] stmts at) rest') (body (tail rest))
 guarded_by body string at guard _ rest = None
 
 abbrev pub guarded : (List Token → Read (List Stmt)) → Option Text → Span → Expr → List Token → Read RuleDecl

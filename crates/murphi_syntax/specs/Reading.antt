@@ -167,7 +167,8 @@ unfoldable mutual
   read (suc k) Implication n tokens = after (implied (read k Disjunction (suc n)) n) (read k Disjunction n tokens)
   read (suc k) Disjunction n tokens = after (chained (links k Or n)) (read k Conjunction n tokens)
   read (suc k) Conjunction n tokens = after (chained (links k And n)) (read k Negation n tokens)
-  read (suc k) Negation n tokens = negation_at (read k Negation (suc n)) (after (compared (read k Primary n)) (read k Primary n tokens)) n tokens
+  read (suc k) Negation n tokens =
+      negation_at (read k Negation (suc n)) (after (compared (read k Primary n)) (read k Primary n tokens)) n tokens
   read (suc k) Primary n tokens = primary_at (read k Implication (suc n)) n tokens
 
   -- the further operands of a chain, each behind its sign

@@ -51,7 +51,8 @@ Answers f tokens at answer = Eventually (λ k. f k (drop at tokens)) (read_of to
 -- one step of reading a list, from an index on, with what was read before it and with it
 abbrev pub Continues : {A : Type 0} → (ℕ → List Token → Read (List A)) → List Token → ℕ → List A → List A → Step → Type 0
 Continues f tokens at old new (More next) = (from : ℕ) → SoFar f tokens from at old → SoFar f tokens from next new
-Continues f tokens at old new (End next) = (from : ℕ) → SoFar f tokens from at old → Eventually (λ k. f k (drop from tokens)) (Some (new, drop next tokens))
+Continues f tokens at old new (End next) =
+    (from : ℕ) → SoFar f tokens from at old → Eventually (λ k. f k (drop from tokens)) (Some (new, drop next tokens))
 Continues f tokens at old new (Stop place) = (from : ℕ) → SoFar f tokens from at old → Eventually (λ k. f k (drop from tokens)) None
 
 -- behind one of a list: over a semicolon, or at the end

@@ -62,7 +62,9 @@ Judged p (Err Memory) = Unit {0}
 -- what is answered of tokens
 unfoldable pub SaysOf : List Token → Result Protocol FlatStop → Type 0
 SaysOf tokens (Ok p) = SpellsProtocol tokens p × IsFlat p × (length (variables p) ≤ greatest_variables)
-SaysOf tokens (Err (NotBuilt at)) = (p : Protocol) × SpellsProtocol tokens p × IsFlat p × (slice_get (variable_places p) greatest_variables ≡ Some at)
+SaysOf tokens (Err (NotBuilt at)) =
+    (p : Protocol) × SpellsProtocol tokens p × IsFlat p
+    × (slice_get (variable_places p) greatest_variables ≡ Some at)
 SaysOf tokens (Err (NotFlat at)) = (p : Protocol) → SpellsProtocol tokens p → IsFlat p → ⊥
 SaysOf tokens (Err Memory) = Unit {0}
 
@@ -70,6 +72,9 @@ SaysOf tokens (Err Memory) = Unit {0}
 -- that the text has a fault; or what is answered of its tokens
 pub data FlatSays (bytes : List ℕ) : Result Protocol FlatStop → Type 0 where
   wants_memory : FlatSays bytes (Err Memory)
-  has_word : (tokens : List Token) (fault : Option Fault) (at : Span) → Reads start bytes tokens fault → first_other_word tokens ≡ Some at → FlatSays bytes (Err (NotBuilt at))
-  has_fault : (tokens : List Token) (fault : Fault) (at : Span) → Reads start bytes tokens (Some fault) → first_other_word tokens ≡ None → FlatSays bytes (Err (NotFlat at))
-  says : (tokens : List Token) (r : Result Protocol FlatStop) → Reads start bytes tokens None → first_other_word tokens ≡ None → SaysOf tokens r → FlatSays bytes r
+  has_word : (tokens : List Token) (fault : Option Fault) (at : Span) → Reads start bytes tokens fault →
+      first_other_word tokens ≡ Some at → FlatSays bytes (Err (NotBuilt at))
+  has_fault : (tokens : List Token) (fault : Fault) (at : Span) → Reads start bytes tokens (Some fault) →
+      first_other_word tokens ≡ None → FlatSays bytes (Err (NotFlat at))
+  says : (tokens : List Token) (r : Result Protocol FlatStop) → Reads start bytes tokens None →
+      first_other_word tokens ≡ None → SaysOf tokens r → FlatSays bytes r

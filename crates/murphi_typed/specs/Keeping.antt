@@ -81,7 +81,8 @@ HasGlobals types globals = (k : ℕ) → types (Global k) ≡ variable_type (sli
 abbrev pub inner_types : ℕ → List DeclaredFormal → List Variable → Declared → Declared
 inner_types depth formals locals types (Global k) = types (Global k)
 inner_types depth formals locals types (Local of k) = if nat_eq of depth then variable_type (slice_get locals k) else types (Local of k)
-inner_types depth formals locals types (Formal of k) = if nat_eq of depth then formal_type false (slice_get formals k) else types (Formal of k)
+inner_types depth formals locals types (Formal of k) =
+    if nat_eq of depth then formal_type false (slice_get formals k) else types (Formal of k)
 
 -- each routine of a list fits where it may call those after it, which are in text order the other way round
 abbrev pub LatestFit : Typed → List Routine → Type 0

@@ -41,11 +41,14 @@ pub record IsFalseFor (N : ℕ) (cells : Cells) (p : List ℕ) (piece : Piece) (
 
 -- a piece is true for all nodes as its binders
 abbrev pub IsTrueForAll : ℕ → Cells → List ℕ → Piece → Type 0
-IsTrueForAll N cells p piece = (bound : List ℕ) → length bound ≡ piece.binders → AreNodes N bound → IsTrue (holds N cells (p ++ bound) piece.body)
+IsTrueForAll N cells p piece =
+    (bound : List ℕ) → length bound ≡ piece.binders → AreNodes N bound → IsTrue (holds N cells (p ++ bound) piece.body)
 
 -- some piece of a list is false for some nodes
 abbrev pub HasFalsePiece : ℕ → Cells → List Piece → List ℕ → Type 0
-HasFalsePiece N cells pieces p = (k : ℕ) × (piece : Piece) × (slice_get pieces k ≡ Some piece) × ((bound : List ℕ) × IsFalseFor N cells p piece bound)
+HasFalsePiece N cells pieces p =
+    (k : ℕ) × (piece : Piece) × (slice_get pieces k ≡ Some piece)
+    × ((bound : List ℕ) × IsFalseFor N cells p piece bound)
 
 -- all pieces of a list are true for all nodes
 abbrev pub AllPiecesHold : ℕ → Cells → List Piece → List ℕ → Type 0
@@ -73,7 +76,8 @@ next_state N families s r p = filled N families (new_value N (cell_value N famil
 pub record IsStep (N : ℕ) (families : List CellFamily) (s : State) (r : TermRule) (p : List ℕ) (t : State) : Type 0 where
   pub enabled : IsEnabled N (cell_value N families s) r p
   pub next : t ≡ next_state N families s r p
-  pub allowed : (f : ℕ) (at : List ℕ) → IsTrue (is_cell N families f at) → IsTrue (is_written r f) → IsTrue (may_have N families f (new_value N (cell_value N families s) r p f at))
+  pub allowed : (f : ℕ) (at : List ℕ) → IsTrue (is_cell N families f at) → IsTrue (is_written r f) →
+      IsTrue (may_have N families f (new_value N (cell_value N families s) r p f at))
 
 -- a value that a cell of this family cannot have counts as undefined
 abbrev pub settled : ℕ → List CellFamily → ℕ → Value → Value

@@ -27,7 +27,8 @@ PlacingBinds =
     (N : ℕ) (read : Cells) (frame ns : List ℕ) (to : ℕ) (terms : List Term) (t : Term)
     → length frame ≡ to
     → length ns ≡ length terms
-    → ((k : ℕ) (by : Term) (n : ℕ) → IsTrue (occurs k t) → slice_get terms k ≡ Some by → slice_get ns k ≡ Some n → value_of N read frame by ≡ Node n)
+    → ((k : ℕ) (by : Term) (n : ℕ) → IsTrue (occurs k t) → slice_get terms k ≡ Some by → slice_get ns k ≡ Some n
+    → value_of N read frame by ≡ Node n)
     → value_of N read frame (placed to terms t) ≡ value_of N read ns t
 
 -- A placed term has its free variables below those of the frame that it is for, or as far past them as the
@@ -177,7 +178,9 @@ PiecesHoldOrFail = (N : ℕ) (read : Cells) (pieces : List Piece) (p : List ℕ)
 
 -- and never both.
 abbrev pub PiecesNeverBoth : Type 0
-PiecesNeverBoth = (N : ℕ) (read : Cells) (pieces : List Piece) (p : List ℕ) → AllPiecesHold N read pieces p → HasFalsePiece N read pieces p → ⊥
+PiecesNeverBoth =
+    (N : ℕ) (read : Cells) (pieces : List Piece) (p : List ℕ) → AllPiecesHold N read pieces p
+    → HasFalsePiece N read pieces p → ⊥
 
 -- A start and firings give the states of one run,
 abbrev pub LabelsGiveOneRun : Type 0

@@ -50,16 +50,20 @@ unfoldable mutual
   value_of N cells frame (NotForm body) = Truth (not (truth (value_of N cells frame body)))
   value_of N cells frame (t.And' _ parts) = Truth (row_all N cells frame parts)
   value_of N cells frame (t.Or' _ parts) = Truth (row_any N cells frame parts)
-  value_of N cells frame (IfForm test then' else') = if truth (value_of N cells frame test) then value_of N cells frame then' else value_of N cells frame else'
+  value_of N cells frame (IfForm test then' else') =
+      if truth (value_of N cells frame test) then value_of N cells frame then' else value_of N cells frame else'
   value_of N cells frame (SameForm left right) = Truth (same_value (value_of N cells frame left) (value_of N cells frame right))
-  value_of N cells frame (LessForm left right) = Truth (int_lt (number (value_of N cells frame left)) (number (value_of N cells frame right)))
-  value_of N cells frame (ArithForm op left right) = Number (arith op (number (value_of N cells frame left)) (number (value_of N cells frame right)))
+  value_of N cells frame (LessForm left right) =
+      Truth (int_lt (number (value_of N cells frame left)) (number (value_of N cells frame right)))
+  value_of N cells frame (ArithForm op left right) =
+      Number (arith op (number (value_of N cells frame left)) (number (value_of N cells frame right)))
   value_of N cells frame (QuantifiedForm all body) = Truth (holds_at all (λ n. truth (value_of N cells (frame ++ n ∷ []) body)) (nodes N))
 
   -- the indices that terms stand for, or none where one of them stands for no node
   pub row_indices : {n : _} → ℕ → Cells → List ℕ → Row_of-Term n → Option (List ℕ)
   row_indices N cells frame end_of-Term = Some []
-  row_indices N cells frame (more_of-Term first rest) = with_index (index_of N (value_of N cells frame first)) (row_indices N cells frame rest)
+  row_indices N cells frame (more_of-Term first rest) =
+      with_index (index_of N (value_of N cells frame first)) (row_indices N cells frame rest)
 
   -- whether all terms are true
   pub row_all : {n : _} → ℕ → Cells → List ℕ → Row_of-Term n → Bool

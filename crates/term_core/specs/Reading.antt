@@ -42,7 +42,8 @@ unfoldable mutual
   cells_read N cells frame (NotForm body) = cells_read N cells frame body
   cells_read N cells frame (t.And' _ parts) = row_read N cells frame parts
   cells_read N cells frame (t.Or' _ parts) = row_read N cells frame parts
-  cells_read N cells frame (IfForm test then' else') = cells_read N cells frame test ++ (cells_read N cells frame then' ++ cells_read N cells frame else')
+  cells_read N cells frame (IfForm test then' else') =
+      cells_read N cells frame test ++ (cells_read N cells frame then' ++ cells_read N cells frame else')
   cells_read N cells frame (SameForm left right) = cells_read N cells frame left ++ cells_read N cells frame right
   cells_read N cells frame (LessForm left right) = cells_read N cells frame left ++ cells_read N cells frame right
   cells_read N cells frame (ArithForm op left right) = cells_read N cells frame left ++ cells_read N cells frame right
