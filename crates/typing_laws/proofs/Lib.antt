@@ -1,0 +1,4 @@
+-- Lemmas.
+pub mod KeptExpressions
+pub mod KeptStatements
+pub mod KeptItems

@@ -1,0 +1,2 @@
+-- Statements of the laws.
+pub mod Keeping

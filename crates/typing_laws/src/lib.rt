@@ -1,0 +1,4 @@
+//! What typing leaves as it was: laws, and no code.
+#![tactic(auto)]
+
+pub mod laws;
