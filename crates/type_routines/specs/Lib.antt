@@ -1,0 +1,2 @@
+-- What code gives of routines.
+pub mod Formals
