@@ -1,0 +1,2 @@
+-- How the size of the node type is written.
+pub mod Sizes
