@@ -1,0 +1,3 @@
+-- What contracts see, and words for what code has done so far.
+pub mod Steps
+pub mod Gathered
