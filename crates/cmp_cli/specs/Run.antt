@@ -4,6 +4,7 @@ use Rattle.murphi_ast.specs.declared.token.Span.{Span}
 use Rattle.murphi_ast.specs.declared.rule.Protocol.{Protocol}
 use Rattle.murphi_ast.specs.Flat.{IsBuilt, IsUnbuilt, IsNotFlat}
 use Rattle.murphi_ast.specs.Safety.{IsInductive, IsSafe}
+use Rattle.murphi_lex.specs.Places.{IsPlace}
 use Rattle.flat_check.specs.declared.Finding.{Finding}
 use Rattle.flat_check.specs.declared.Formula.{Formula}
 use Rattle.flat_check.specs.Verdict.{IsFinding}
@@ -37,10 +38,10 @@ abbrev pub Spells : Protocol → List ℕ → Type 0
 Spells p bytes = (length bytes ≤ greatest_file) × IsBuilt bytes p
 
 -- a text is refused at a place: something in it is not built; or it spells no flat protocol, where the
--- place that is named is a token's
+-- place that is named is one of the text's, behind some front of its bytes
 abbrev pub RefusesText : Code → List ℕ → Span → Type 0
 RefusesText code.E10 bytes at = IsUnbuilt bytes at
-RefusesText code.E04 bytes at = IsNotFlat bytes
+RefusesText code.E04 bytes at = IsNotFlat bytes × IsPlace bytes at
 
 -- a file of the protocol that has these bytes is refused: it is too long, or else its text is refused
 abbrev pub RefusesFile : Refusal → List ℕ → Type 0

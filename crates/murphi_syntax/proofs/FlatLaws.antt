@@ -1,6 +1,6 @@
 -- What is answered of a tree, of tokens and of bytes.
-use Rattle.std.proofs.Common.{◌≡◌, ℕ, zero, suc, ◌≤◌, Bool, true, false, ◌&&◌, List, [], ◌∷◌, length, eq-eqb, eqb-true, Option, Some, None, refl, sym, ap, ◌∙◌, subst, arith}
-use Rattle.std.specs.Prelude.{nat_eq, map, slice_get, option_map, count_by, Result, Ok, Err, IfOk, IfErr, MatchResult}
+use Rattle.std.proofs.Common.{◌≡◌, ℕ, zero, suc, ◌≤◌, ◌<◌, Bool, true, false, ◌&&◌, List, [], ◌∷◌, length, eq-eqb, eqb-true, Option, Some, None, refl, sym, ap, ◌∙◌, subst, arith}
+use Rattle.std.specs.Prelude.{nat_eq, map, slice_get, slice_index_or, option_map, count_by, Result, Ok, Err, IfOk, IfErr, MatchResult}
 use Rattle.std.specs.List.{list_all}
 use Rattle.murphi_ast.specs.declared.token.Span.{Span}
 use Rattle.murphi_ast.specs.declared.token.Token.{Token}
@@ -13,16 +13,17 @@ use Rattle.murphi_ast.specs.declared.token.Fault.{Fault}
 use Rattle.murphi_ast.specs.Bytes.{start}
 use Rattle.murphi_ast.specs.Spelling.{Reads}
 use Rattle.murphi_ast.specs.Flat.{all_distinct, item_knows, IsFlat, first_other_word, FirstOtherWord, greatest_variables, variable_places, SpellsFlat, IsBuilt, IsUnbuilt, other_word, ninth_name, IsNotFlat}
+use Rattle.murphi_lex.specs.Places.{IsPlace, StandsAt, fault_place}
 use Rattle.murphi_syntax.specs.Protocols.{IsProtocol}
 use Rattle.murphi_syntax.specs.Scope.{named_in, names_of}
-use Rattle.murphi_syntax.specs.Stop.{is_flat, ninth, Judged, SaysOf, IsStop, TellsUnbuilt, TellsNotFlat, FlatSays, wants_memory, has_word, has_fault, says}
+use Rattle.murphi_syntax.specs.Stop.{is_flat, ninth, Judged, SaysOf, IsStop, IsPlaced, IsNamed, of_token, at_start, IsNamedBy, TellsUnbuilt, TellsNotFlat, FlatSays, wants_memory, has_word, has_fault, says}
 use Rattle.murphi_syntax.specs.declared.protocol.FlatStop.{FlatStop}
 use Rattle.murphi_syntax.specs.declared.protocol.FlatStop.TheVariants.{NotBuilt, NotFlat, Memory}
 use Rattle.murphi_syntax.proofs.ScopeLemmas.{names_are, places_are}
 use Rattle.murphi_syntax.proofs.DeclSound.{protocol_sound}
 use Rattle.murphi_syntax.proofs.DeclComplete.{protocol_complete, one_protocol}
 use Rattle.murphi_syntax.proofs.Clean.{protocol_clean}
-use Rattle.std.proofs.lemmas.Option.{slice_get_within}
+use Rattle.std.proofs.lemmas.Option.{slice_get_within, slice_get_read}
 
 -- the two parts of a test
 and_both : (a b : Bool) → (a && b) ≡ true → (a ≡ true) × (b ≡ true)
@@ -252,4 +253,54 @@ says_word bytes tokens fault at reads word = has_word tokens fault at reads (sym
 pub says_memory : (bytes : List ℕ) → FlatSays bytes (Err Memory)
 says_memory bytes = wants_memory
 
-pub ruleset flats = (says_fault, says_tokens, says_word, says_memory)
+-- places
+
+-- the places of a text's tokens, and of its fault, are of the text
+abbrev TokenPlaces : Type 0
+TokenPlaces =
+    (bytes : List ℕ) (tokens : List Token) (fault : Option Fault) (at : Span) → Reads start bytes tokens fault
+    → StandsAt tokens at → IsPlace bytes at
+
+abbrev FaultPlaces : Type 0
+FaultPlaces =
+    (bytes : List ℕ) (tokens : List Token) (fault : Fault) → Reads start bytes tokens (Some fault)
+    → IsPlace bytes (fault_place fault)
+
+pub place_of_fault : FaultPlaces → (bytes : List ℕ) (tokens : List Token) (fault : Option Fault) (f : Fault) →
+    Reads start bytes tokens fault → fault ≡ Some f → IsPlace bytes (fault_place f)
+place_of_fault law bytes tokens fault f reads is = law bytes tokens f (subst (λ o. Reads start bytes tokens o) is reads)
+
+named_place : TokenPlaces → (bytes : List ℕ) (tokens : List Token) (fault : Option Fault) (at : Span) →
+    Reads start bytes tokens fault → IsNamed tokens at → IsPlace bytes at
+named_place law bytes tokens fault at reads (of_token _ stands) = law bytes tokens fault at reads stands
+named_place law bytes tokens fault _ reads at_start = record { front = []; back = bytes; split = refl; is = refl }
+
+pub placed_by : TokenPlaces → (bytes : List ℕ) (tokens : List Token) (fault : Option Fault)
+    (r : Result Protocol FlatStop) → Reads start bytes tokens fault → IfErr r (λ e. IsNamedBy tokens e) →
+    IfErr r (λ e. IsPlaced bytes e)
+placed_by law bytes tokens fault (Ok p) reads h = tt
+placed_by law bytes tokens fault (Err (NotBuilt at)) reads h = tt
+placed_by law bytes tokens fault (Err (NotFlat at)) reads h = named_place law bytes tokens fault at reads h
+placed_by law bytes tokens fault (Err Memory) reads h = tt
+
+pub says_elsewhere : (tokens : List Token) (at place : Span) → SaysOf tokens (Err (NotFlat at)) →
+    SaysOf tokens (Err (NotFlat place))
+unfolding SaysOf
+says_elsewhere tokens at place s = s
+
+pub named_start : (tokens : List Token) → IsNamed tokens start
+named_start tokens = at_start
+
+pub named_item : (tokens : List Token) (k : ℕ) (token : Token) → k < length tokens →
+    token ≡ slice_index_or tokens k token → IsNamed tokens token.at
+named_item tokens k token low is =
+    of_token token.at (record {
+      number = k;
+      token = token;
+      there = slice_get_read tokens (length tokens) k token refl low is;
+      is = refl;
+    })
+
+pub ruleset naming = (says_elsewhere, named_start, named_item)
+
+pub ruleset flats = (says_fault, says_tokens, says_word, says_memory, place_of_fault, placed_by)

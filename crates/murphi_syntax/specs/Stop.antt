@@ -12,6 +12,7 @@ use Rattle.murphi_ast.specs.State.{variables}
 use Rattle.murphi_ast.specs.Title.{StartKind, is_of}
 use Rattle.murphi_ast.specs.Grammar.{SpellsProtocol}
 use Rattle.murphi_ast.specs.Flat.{first_other_word, all_distinct, item_knows, IsFlat, greatest_variables, variable_places, IsUnbuilt, IsNotFlat}
+use Rattle.murphi_lex.specs.Places.{IsPlace, StandsAt}
 use Rattle.murphi_syntax.specs.Scope.{names_of}
 use Rattle.murphi_ast.specs.declared.rule.Protocol.{Protocol}
 use Rattle.murphi_syntax.specs.declared.protocol.FlatStop.{FlatStop}
@@ -36,6 +37,23 @@ abbrev pub TellsNotFlat : FlatStop → Type 0
 TellsNotFlat (NotBuilt at) = ⊥
 TellsNotFlat (NotFlat at) = Unit {0}
 TellsNotFlat Memory = Unit {0}
+
+-- what does not fit is named by a place of the text
+abbrev pub IsPlaced : List ℕ → FlatStop → Type 0
+IsPlaced bytes (NotBuilt at) = Unit {0}
+IsPlaced bytes (NotFlat at) = IsPlace bytes at
+IsPlaced bytes Memory = Unit {0}
+
+-- a place that one of the tokens names, or the start of the text
+pub data IsNamed (tokens : List Token) : Span → Type 0 where
+  of_token : (at : Span) → StandsAt tokens at → IsNamed tokens at
+  at_start : IsNamed tokens start
+
+-- what does not fit is named by such a place
+abbrev pub IsNamedBy : List Token → FlatStop → Type 0
+IsNamedBy tokens (NotBuilt at) = Unit {0}
+IsNamedBy tokens (NotFlat at) = IsNamed tokens at
+IsNamedBy tokens Memory = Unit {0}
 
 -- a protocol that was read, or none
 abbrev pub parsed_of : Parsed → Option Protocol

@@ -6,7 +6,7 @@ ghost use Rattle.murphi_ast.specs.declared.rule.Protocol.{Protocol};
 ghost use Rattle.murphi_ast.specs.Flat.{first_other_word, SpellsFlat, IsBuilt, IsUnbuilt, IsNotFlat};
 ghost use Rattle.murphi_syntax.specs.Protocols.{is_end, IsProtocol};
 ghost use Rattle.murphi_syntax.specs.Scope.{named_in};
-ghost use Rattle.murphi_syntax.specs.Stop.{IsStop, TellsUnbuilt, TellsNotFlat, parsed_of, is_flat, ninth, Judged, SaysOf, FlatSays};
+ghost use Rattle.murphi_syntax.specs.Stop.{IsStop, IsPlaced, IsNamed, IsNamedBy, TellsUnbuilt, TellsNotFlat, parsed_of, is_flat, ninth, Judged, SaysOf, FlatSays};
 
 use crate::declaration::decls;
 use crate::expr::{place_at, token_at};
@@ -18,7 +18,7 @@ use murphi_ast::rule::{Protocol, RuleDecl};
 use murphi_ast::terminal::{Terminal, terminal_of};
 use murphi_ast::text::Memory;
 use murphi_ast::token::{Fault, Span, Token};
-use murphi_lex::{Scanned, one_reading, scan};
+use murphi_lex::{Scanned, one_reading, places_are_of_the_text, scan};
 use std::alloc::Global;
 
 /// How many variables a flat protocol may have.
@@ -30,7 +30,8 @@ pub enum FlatStop {
     /// The text has something that is not built yet: a word that no flat protocol has, or a ninth
     /// variable. The place is that of the first such word, or else of the ninth name.
     NotBuilt { at: Span },
-    /// The bytes spell no flat protocol. The place is that of a token that does not fit, or of the end.
+    /// The bytes spell no flat protocol. The place is that of a token that does not fit, or of the end: it is
+    /// behind some front of the bytes.
     NotFlat { at: Span },
     /// There was no memory.
     Memory,
@@ -168,11 +169,46 @@ fn end_place(tokens: &[Token]) -> Span {
     }
 }
 
+/// A place, if one of the tokens stands there; else that of the last. That the forms name places of
+/// tokens is tested here, and not proved of each of them.
+#[tactic(auto, using(crate::proofs::FlatLaws::naming))]
+fn token_place(tokens: &[Token], at: Span) -> Span
+    ensures { IsNamed tokens.now result }
+{
+    let mut place = Span { line: 1, column: 1 };
+    for token in tokens {
+        place = token.at;
+        if place.line == at.line && place.column == at.column {
+            return place;
+        }
+    }
+    place
+}
+
+/// An answer of these tokens, with a place of one of them.
+#[tactic(auto, using(crate::proofs::FlatLaws::naming))]
+fn named(tokens: &[Token], answer: Result<Protocol, FlatStop>) -> Result<Protocol, FlatStop>
+    ensures says { SaysOf tokens.now answer → SaysOf tokens.now result }
+    ensures named { IfErr result (λ e. IsNamedBy tokens.now e) }
+{
+    match answer {
+        Ok(p) => Ok(p),
+        Err(FlatStop::NotBuilt { at }) => Err(FlatStop::NotBuilt { at }),
+        Err(FlatStop::NotFlat { at }) => {
+            let at = token_place(tokens, at);
+            Err(FlatStop::NotFlat { at })
+        }
+        Err(FlatStop::Memory) => Err(FlatStop::Memory),
+    }
+}
+
 /// The flat protocol that the bytes spell, with what it is answered by.
 #[tactic(auto, using(crate::proofs::FlatLaws::flats))]
 fn read(alloc: Global, bytes: &[u8]) -> Result<Protocol, FlatStop>
-    ensures { FlatSays bytes.now result }
+    ensures says { FlatSays bytes.now result }
+    ensures placed { IfErr result (λ e. IsPlaced bytes.now e) }
 {
+    places_are_of_the_text();
     let Scanned { tokens, fault } = match scan(alloc, bytes) {
         Ok(scanned) => scanned,
         Err(_) => return Err(FlatStop::Memory),
@@ -182,7 +218,10 @@ fn read(alloc: Global, bytes: &[u8]) -> Result<Protocol, FlatStop>
         None => match fault {
             Some(Fault::E02(at)) => Err(FlatStop::NotFlat { at }),
             Some(Fault::E03(at)) => Err(FlatStop::NotFlat { at }),
-            None => tree_of(alloc, &tokens),
+            None => {
+                let answer = tree_of(alloc, &tokens);
+                named(&tokens, answer)
+            }
         },
     }
 }
@@ -192,6 +231,7 @@ fn read(alloc: Global, bytes: &[u8]) -> Result<Protocol, FlatStop>
 pub fn flat(alloc: Global, bytes: &[u8]) -> Result<Protocol, FlatStop>
     ensures spelled { IfOk result (λ p. IsBuilt bytes.now p) }
     ensures stopped { IfErr result (λ e. IsStop bytes.now e) }
+    ensures placed { IfErr result (λ e. IsPlaced bytes.now e) }
 
     // What holds of the bytes is answered, unless memory runs out.
     ensures only { (p : Protocol) → IsBuilt bytes.now p → MatchResult result (λ q. q ≡ p) (λ e. e ≡ FlatStop.Memory) }

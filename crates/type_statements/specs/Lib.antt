@@ -1,0 +1,4 @@
+-- What code gives of statements.
+pub mod Stating
+pub mod StatementsGiven
+pub mod StatementLists
