@@ -1,6 +1,5 @@
 -- What code gives of formals and results, from what the definition leaves.
 use Rattle.std.proofs.Common.{◌≡◌, Bool, not, ◌&&◌, List, [], ◌∷◌, ◌++◌, Option, None, Some, refl, ap, ◌∙◌}
-use Rattle.std.specs.Prelude.{is_some}
 use Rattle.murphi_ast.specs.declared.expr.Named.{Named}
 use Rattle.murphi_ast.specs.declared.expr.TypeExpr.{TypeExpr}
 use Rattle.murphi_ast.specs.declared.decl.Formal.{Formal}
@@ -13,17 +12,17 @@ use Rattle.murphi_types.specs.declared.scope.Scope.{Scope}
 use Rattle.murphi_types.specs.Faults.{sooner, first_fault}
 use Rattle.murphi_types.specs.Places.{type_place_of}
 use Rattle.murphi_types.specs.Fitting.{simple_part}
-use Rattle.murphi_types.specs.Types.{FoundType, Unnamed, simple_wanted}
+use Rattle.murphi_types.specs.Types.{FoundType, Unnamed}
 use Rattle.murphi_types.specs.Typing.{type_found}
 use Rattle.murphi_types.specs.Routines.{FoundFormals, one_formal, formals_of_names, formal_faults, group_found, formals_found, no_formals, result_found}
 use Rattle.type_parts.specs.declared.judged.JudgedType.{JudgedType}
 use Rattle.type_parts.proofs.FaultLemmas.{first-append, first-unless}
-use Rattle.type_forms.specs.Writing.{judged_type, simply}
+use Rattle.type_forms.specs.Writing.{simply}
 use Rattle.type_expressions.specs.PartsGiven.{type_part}
 use Rattle.type_expressions.proofs.PartLemmas.{simple-is}
 use Rattle.type_routines.specs.declared.state.JudgedFormals.{JudgedFormals}
 use Rattle.type_routines.specs.declared.state.JudgedResult.{JudgedResult}
-use Rattle.type_routines.specs.Formals.{formals_left, formal_with, formals_with, var_fault, group_named, group_with, groups_with, result_part}
+use Rattle.type_routines.specs.Formals.{formals_left, formal_with, formals_with, var_fault, group_with, groups_with, result_part}
 
 formal-is : (b : Bool) (t : Option AnyType) (name : Name) (f : FoundFormals) → formals_left (one_formal b t name f) ≡ formal_with b t name (formals_left f)
 unfolding formals_left

@@ -1,5 +1,5 @@
 -- What code gives of formals and results: what they leave, with the first of their faults.
-use Rattle.std.specs.Prelude.{Bool, not, ◌&&◌, List, [], ◌∷◌, ◌++◌, length, Option, None, Some}
+use Rattle.std.specs.Prelude.{Bool, not, ◌&&◌, List, [], ◌∷◌, ◌++◌, length, Option, None}
 use Rattle.murphi_ast.specs.declared.expr.Named.{Named}
 use Rattle.murphi_ast.specs.declared.decl.Formal.{Formal}
 use Rattle.murphi_typed.specs.Families.{Name}

@@ -1,2 +1,3 @@
--- What code gives of routines.
+-- What code gives of routines and of the declarations of a text.
 pub mod Formals
+pub mod Routines
