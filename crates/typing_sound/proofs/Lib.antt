@@ -1,0 +1,20 @@
+-- Lemmas.
+pub mod Grown
+pub mod GrownStatements
+pub mod TypeEquations
+pub mod Fits
+pub mod Tests
+pub mod Parts
+pub mod ConstantLemmas
+pub mod TypeSteps
+pub mod CallSteps
+pub mod Expressions
+pub mod StatementEquations
+pub mod StatementSteps
+pub mod Statements
+pub mod Locals
+pub mod Routines
+pub mod Globals
+pub mod Items
+pub mod Texts
+pub mod LemmaTexts

@@ -1,0 +1,27 @@
+-- What typing gives is well typed.
+use Rattle.std.specs.Prelude.{◌≡◌, true, [], Option, None, IsTrue}
+use Rattle.murphi_ast.specs.declared.expr.Expr.{Expr}
+use Rattle.murphi_ast.specs.declared.rule.Protocol.{Protocol}
+use Rattle.murphi_typed.specs.Families.{Name}
+use Rattle.murphi_typed.specs.WellTyped.{is_well_typed, lemma_fits}
+use Rattle.murphi_types.specs.Lemmas.{lemma_faults, lemma_typed}
+use Rattle.murphi_types.specs.Texts.{refusal, typed_text}
+use Rattle.murphi_types.specs.WorkedProtocol.{protocol}
+use Rattle.typing_sound.specs.Spelled.{is_spelled, text_spelled}
+
+-- a text that is not refused is typed as a well-typed protocol
+abbrev pub TextsAreWellTyped : Type 0
+TextsAreWellTyped =
+    (node : Option Name) (P : Protocol) → IsTrue (text_spelled P) → refusal node P ≡ None
+    → IsTrue (is_well_typed (typed_text node P))
+
+-- and a lemma without faults beside it as a formula of that protocol, with its own kinds
+abbrev pub LemmasAreWellTyped : Type 0
+LemmasAreWellTyped =
+    (node : Option Name) (P : Protocol) (body : Expr) → IsTrue (text_spelled P) → refusal node P ≡ None
+    → IsTrue (is_spelled body) → lemma_faults (typed_text node P) body ≡ []
+    → IsTrue (lemma_fits (typed_text node P) (lemma_typed (typed_text node P) body))
+
+-- what is asked of a tree is so of mutex.m, with two of its rules
+abbrev pub MutexIsSpelled : Type 0
+MutexIsSpelled = text_spelled protocol ≡ true

@@ -1,0 +1,20 @@
+//! Laws, each on a function that does nothing.
+
+ghost use Rattle.typing_sound.specs.Sound.{LemmasAreWellTyped, MutexIsSpelled, TextsAreWellTyped};
+
+/// A text that typing does not refuse is typed as a well-typed protocol, for whatever name is given for the
+/// node type. Of the tree nothing is asked but what every tree keeps that the tokens of a text spell.
+pub fn texts_are_well_typed()
+    ensures texts { TextsAreWellTyped }
+{}
+
+/// A lemma that has no fault beside such a text is typed as a well-typed formula of that protocol, which has
+/// the kinds of the lemma behind its own.
+pub fn lemmas_are_well_typed()
+    ensures lemmas { LemmasAreWellTyped }
+{}
+
+/// What is asked of a tree is so of the worked protocol, which is mutex.m with two of its rules.
+pub fn worked_case()
+    ensures spelled { MutexIsSpelled }
+{}

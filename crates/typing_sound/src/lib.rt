@@ -1,0 +1,4 @@
+//! What typing gives is well typed: laws, and no code.
+#![tactic(auto)]
+
+pub mod laws;
