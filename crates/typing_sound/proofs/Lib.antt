@@ -18,3 +18,5 @@ pub mod Globals
 pub mod Items
 pub mod Texts
 pub mod LemmaTexts
+pub mod SpelledEquations
+pub mod SpelledForms

@@ -1,6 +1,6 @@
 //! Laws, each on a function that does nothing.
 
-ghost use Rattle.typing_sound.specs.Sound.{LemmasAreWellTyped, MutexIsSpelled, TextsAreWellTyped};
+ghost use Rattle.typing_sound.specs.Sound.{ExpressionsAreSpelled, LemmasAreWellTyped, MutexIsSpelled, TextsAreWellTyped, TreesAreSpelled};
 
 /// A text that typing does not refuse is typed as a well-typed protocol, for whatever name is given for the
 /// node type. Of the tree nothing is asked but what every tree keeps that the tokens of a text spell.
@@ -17,4 +17,11 @@ pub fn lemmas_are_well_typed()
 /// What is asked of a tree is so of the worked protocol, which is mutex.m with two of its rules.
 pub fn worked_case()
     ensures spelled { MutexIsSpelled }
+{}
+
+/// What is asked of a tree is so of every protocol and every expression that tokens spell whose numbers are
+/// those that a text may have, however many nestings may be open.
+pub fn trees_are_spelled()
+    ensures protocols { TreesAreSpelled }
+    ensures expressions { ExpressionsAreSpelled }
 {}
