@@ -1,0 +1,2 @@
+-- Typing of texts and of lemmas.
+pub mod LemmaEquations

@@ -1,0 +1,3 @@
+-- What typing answers of texts and of lemmas.
+pub mod Lemmas
+pub mod Refusing
