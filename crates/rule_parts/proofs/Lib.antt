@@ -1,0 +1,9 @@
+pub mod EntryEquations
+pub mod FamilyEquations
+pub mod FirstEquations
+pub mod FitEquations
+pub mod LayerWeights
+pub mod LeafEquations
+pub mod ListLemmas
+pub mod NowEquations
+pub mod PlaceEquations
