@@ -10,7 +10,7 @@ use Rattle.abstract_rows.specs.Mutex.{PathIsAsWorked, ShortPathIsNone, Violation
 
 pub only : OnlyIsAsWorked
 unfolding may hidden-the_row-Term-0 shape-the_row-Term-1 hidden-the_row-Term-1 hidden
-only = (refl, refl, refl, refl, refl, refl)
+only = (refl, refl, refl, refl, refl, refl, refl, refl)
 
 pub others : OthersAreAsWorked
 unfolding may hidden-the_row-Term-0 shape-the_row-Term-1 hidden-the_row-Term-1 hidden

@@ -4,3 +4,4 @@ pub mod Values
 pub mod Counts
 pub mod Mutex
 pub mod Starts
+pub mod Flag

@@ -31,7 +31,8 @@ pointing n = Node n ∷ Truth true ∷ []
 
 -- With one fired node in the window the guard may be false and not true, whether the pointer is Other or the kept
 -- node, since no node of the window is Other, and the fired node is not the kept one. In the window of the kept
--- node alone it may be true where the pointer is that node, and because of Other it may be false too.
+-- node alone it may be true where the pointer is that node, and because of Other it may be false too; where the
+-- pointer is Other it may be false and not true.
 abbrev pub OnlyIsAsWorked : Type 0
 OnlyIsAsWorked =
     (may (with_fired only 1) (pointing Other) [] alone (passes true) ≡ false)
@@ -40,6 +41,8 @@ OnlyIsAsWorked =
     × (may (with_fired only 1) (pointing (Kept 1)) [] alone (passes false) ≡ true)
     × (may (with_fired only 0) (pointing (Kept 1)) [] alone (passes true) ≡ true)
     × (may (with_fired only 0) (pointing (Kept 1)) [] alone (passes false) ≡ true)
+    × (may (with_fired only 0) (pointing Other) [] alone (passes true) ≡ false)
+    × (may (with_fired only 0) (pointing Other) [] alone (passes false) ≡ true)
 
 -- Other against Other may be one node or two; Other is none of the window's nodes, and these are all different.
 abbrev pub same_two : AbsNode → AbsNode → Bool → Bool

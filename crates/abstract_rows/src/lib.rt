@@ -7,6 +7,9 @@ ghost use Rattle.abstract_rows.specs.Counts.{PatternsAreAsCounted, CellsAreAsCou
 ghost use Rattle.abstract_rows.specs.Mutex.{PathIsAsWorked, ShortPathIsNone, ViolationsAreAsWorked};
 ghost use Rattle.abstract_rows.specs.Starts.{StartsAreAsWorked, FaultsAreAsWorked};
 
+#[cfg(test)]
+mod flag;
+
 /// What guards and reads may give in windows of one kept node.
 pub fn values_are_as_worked()
     ensures only { OnlyIsAsWorked }
