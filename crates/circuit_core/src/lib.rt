@@ -13,6 +13,3 @@ pub mod memory;
 pub use circuit::Circuit;
 pub use edge::{Edge, Gate, not};
 pub use memory::Memory;
-
-#[cfg(test)]
-mod tests;

@@ -15,6 +15,3 @@ pub use clause::{Clause, contains};
 pub use cnf::{Cnf, satisfies};
 pub use literal::{Lit, MOST_VARIABLES};
 pub use memory::Memory;
-
-#[cfg(test)]
-mod tests;

@@ -13,6 +13,3 @@ pub use chain::{Chain, Log, Resolve, Steps};
 pub use derivation::{check, check_under};
 pub use marks::Marks;
 pub use trimming::trim;
-
-#[cfg(test)]
-mod tests;

@@ -4,13 +4,10 @@
 mod lines;
 pub mod outcome;
 mod program;
-mod report;
+pub mod report;
 pub mod request;
 pub mod table;
 mod titles;
 pub mod words;
 
 pub use program::run;
-
-#[cfg(test)]
-mod tests;

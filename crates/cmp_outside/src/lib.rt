@@ -18,6 +18,3 @@ pub use real_files::RealFiles;
 pub use real_out::RealOut;
 pub use sink::{Sink, WriteFailed};
 pub use source::{ReadEnd, Source};
-
-#[cfg(test)]
-mod tests;

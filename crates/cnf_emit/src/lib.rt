@@ -12,6 +12,3 @@ pub mod system;
 
 pub use emission::{Emitted, emit};
 pub use system::BitSystem;
-
-#[cfg(test)]
-mod tests;

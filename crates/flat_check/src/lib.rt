@@ -7,8 +7,6 @@ mod known;
 mod names;
 mod search;
 mod starts;
-#[cfg(test)]
-mod tests;
 
 ghost use Rattle.std.specs.Prelude.{◌≡◌, IfOk, MatchOption};
 ghost use Rattle.murphi_ast.specs.declared.rule.Protocol.{Protocol};

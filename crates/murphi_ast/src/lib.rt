@@ -7,7 +7,5 @@ pub mod laws;
 pub mod rule;
 pub mod stmt;
 pub mod terminal;
-#[cfg(test)]
-mod tests;
 pub mod text;
 pub mod token;

@@ -178,6 +178,3 @@ fn after(b: u8, at: Span) -> Result<Span, Memory>
         column,
     })
 }
-
-#[cfg(test)]
-mod tests;

@@ -11,6 +11,3 @@ mod statement;
 mod step;
 
 pub use protocol::{FlatStop, flat, one_flat};
-
-#[cfg(test)]
-mod tests;

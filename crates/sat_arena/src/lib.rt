@@ -14,6 +14,3 @@ mod watching;
 
 pub use arena::Arena;
 pub use id::ClauseId;
-
-#[cfg(test)]
-mod tests;

@@ -28,6 +28,3 @@ mod watched;
 pub use assumptions::are_consistent;
 pub use solver::Solver;
 pub use verdict::{Lits, Verdict};
-
-#[cfg(test)]
-mod tests;

@@ -5,8 +5,8 @@ ghost use Rattle.std.specs.List.{list_any};
 ghost use Rattle.sat_arena.specs.Live.{IsLive};
 ghost use Rattle.clause_core.specs.Members.{NoneTwice};
 
-use crate::{Arena, ClauseId};
 use clause_core::{Clause, Lit};
+use sat_arena::{Arena, ClauseId};
 use std::alloc::Global;
 use std::test::Fail;
 

@@ -1,11 +1,11 @@
 //! Copies of trees and symbols of tokens, each once.
-use crate::decl::Decl;
-use crate::expr::{Designator, Expr, Named, TypeExpr};
-use crate::rule::{Protocol, RuleDecl};
-use crate::stmt::Stmt;
-use crate::terminal::{Terminal, terminal_of};
-use crate::text::{Memory, Text};
-use crate::token::{Span, Token, TokenKind};
+use murphi_ast::decl::Decl;
+use murphi_ast::expr::{Designator, Expr, Named, TypeExpr};
+use murphi_ast::rule::{Protocol, RuleDecl};
+use murphi_ast::stmt::Stmt;
+use murphi_ast::terminal::{Terminal, terminal_of};
+use murphi_ast::text::{Memory, Text};
+use murphi_ast::token::{Span, Token, TokenKind};
 use sqlite_items::{Boxed, Items};
 use std::alloc::Global;
 use std::test::Fail;

@@ -1,8 +1,8 @@
 use Rattle.std.proofs.Common.{sym, subst, ◌∙◌}
 use Rattle.std.proofs.lemmas.List.{take_all}
 use Rattle.clause_core.specs.Members.{NoneTwice}
-use Rattle.sat_arena.proofs.ClauseLemmas.{none_twice_more}
-use Rattle.sat_arena.proofs.tests.differ.Goals as goal
+use Rattle.search_rows.proofs.ClauseLemmas.{none_twice_more}
+use Rattle.search_rows.proofs.arenas.differ.Goals as goal
 
 pub loop-i-preserved : goal.loop-i-preserved
 loop-i-preserved c =

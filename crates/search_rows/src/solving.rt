@@ -4,9 +4,9 @@ ghost use Rattle.std.specs.Prelude.{◌<◌};
 ghost use Rattle.clause_core.specs.Formula.{IsInRange};
 ghost use Rattle.sat_solver.specs.Answers.{AreConsistent};
 
-use crate::{Solver, Verdict, are_consistent};
 use clause_core::{Assignment, Clause, Lit, satisfies};
 use clause_derivation::{Marks, check};
+use sat_solver::{Solver, Verdict, are_consistent};
 use std::alloc::Global;
 use std::test::Fail;
 

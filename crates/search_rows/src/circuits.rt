@@ -1,6 +1,6 @@
 //! Rows worked out by hand: the values of circuits, and which gates are saved.
 
-use crate::{Circuit, Edge, Gate, not};
+use circuit_core::{Circuit, Edge, Gate, not};
 use std::alloc::Global;
 use std::test::Fail;
 

@@ -8,7 +8,7 @@
 //!
 //! A state is written cell by cell as `u`, `0` or `1`.
 
-use crate::{Finding, Formula, Verdict, check, finding_is_no_proof};
+use flat_check::{Finding, Formula, Verdict, check, finding_is_no_proof};
 use murphi_ast::decl::Decl;
 use murphi_ast::expr::{ChainOp, CompareOp, Designator, Expr, Link, Named, TypeExpr};
 use murphi_ast::rule::{Protocol, RuleDecl};

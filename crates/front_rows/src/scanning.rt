@@ -1,9 +1,9 @@
 //! Texts and what they are read as, worked out by hand from the rules of the language.
 
-use super::{LexRefusal, scan, tokens};
 use murphi_ast::text::Text;
 use murphi_ast::token::TokenKind::{End, Number, Quoted, Sign, Word};
 use murphi_ast::token::{Fault, Span, Token, TokenKind};
+use murphi_lex::{LexRefusal, scan, tokens};
 use std::test::Fail;
 
 /// A token by its kind, bytes, value, line and column.

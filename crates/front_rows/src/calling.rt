@@ -1,9 +1,9 @@
 //! Tests of what no clause says, over files and a sink in memory: the words, faults, and the text of
 //! reports of outcomes made by hand.
 
-use crate::outcome::{Code, Outcome, Refusal, Role};
-use crate::report::report;
-use crate::run;
+use cmp_cli::outcome::{Code, Outcome, Refusal, Role};
+use cmp_cli::report::report;
+use cmp_cli::run;
 use cmp_outside::{MemFile, MemFiles, MemSink};
 use flat_check::{Finding, Formula};
 use murphi_ast::decl::Decl;

@@ -4,7 +4,9 @@ ghost use Rattle.cmp_outside.specs.Faults.{Rose};
 ghost use Rattle.cmp_outside.specs.Source.{IfTold, OnFailed, OnTooLong};
 ghost use Rattle.cmp_outside.specs.Sink.{Gains, GainsPrefix};
 
-use crate::{MemFile, MemFiles, MemSink, ReadEnd, RealFiles, RealOut, Sink, Source, WriteFailed};
+use cmp_outside::{
+    MemFile, MemFiles, MemSink, ReadEnd, RealFiles, RealOut, Sink, Source, WriteFailed,
+};
 use std::alloc::{AllocError, Global};
 use std::cell::Cell;
 use std::fmt::Display;
@@ -13,7 +15,7 @@ use std::test::Fail;
 use std::{env, fs, io, process};
 
 /// Writes two pieces.
-#[tactic(auto, using(crate::specs::Sink::gains))]
+#[tactic(auto, using(cmp_outside::specs::Sink::gains))]
 fn write_two<K: Sink>(out: &mut K, first: &[u8], second: &[u8]) -> Result<(), WriteFailed>
     ensures ok { OnOk result (Gains (K.written out.old) (K.written out.new) (first.now ++ second.now)) }
     ensures count { OnOk result (K.faults out.new ≡ K.faults out.old) }
@@ -26,7 +28,7 @@ fn write_two<K: Sink>(out: &mut K, first: &[u8], second: &[u8]) -> Result<(), Wr
 }
 
 /// Writes one file after another, and answers whether the sink took them.
-#[tactic(auto, using(crate::specs::Sink::gains))]
+#[tactic(auto, using(cmp_outside::specs::Sink::gains))]
 fn copy<S: Source, K: Sink>(
     alloc: Global,
     files: &mut S,

@@ -1,6 +1,6 @@
 //! Rows worked out by hand: which assignments satisfy which formulas, and what the parts give back.
 
-use crate::{Assignment, Clause, Cnf, Lit, satisfies};
+use clause_core::{Assignment, Clause, Cnf, Lit, satisfies};
 use std::alloc::Global;
 use std::test::Fail;
 

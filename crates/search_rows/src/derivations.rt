@@ -1,7 +1,7 @@
 //! Rows worked out by hand: logs that are derivations, and logs that are not.
 
-use crate::{Chain, Log, Marks, Resolve, Steps, check, check_under};
 use clause_core::{Clause, Cnf, Lit};
+use clause_derivation::{Chain, Log, Marks, Resolve, Steps, check, check_under};
 use std::alloc::Global;
 use std::test::Fail;
 

@@ -1,9 +1,9 @@
 //! Rows worked out by hand: which assignments satisfy the formulas of small circuits, and the values
 //! of the roots there.
 
-use crate::{BitSystem, Emitted, emit};
 use circuit_core::{Circuit, Edge, not};
 use clause_core::{Assignment, Cnf, Lit, satisfies};
+use cnf_emit::{BitSystem, Emitted, emit};
 use std::alloc::Global;
 use std::test::Fail;
 

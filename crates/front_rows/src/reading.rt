@@ -1,5 +1,5 @@
 //! Rows: texts, and what is read of each. Every place is counted by hand.
-use crate::{FlatStop, flat};
+use murphi_syntax::{FlatStop, flat};
 use std::alloc::{AllocError, Global};
 use std::test::Fail;
 
