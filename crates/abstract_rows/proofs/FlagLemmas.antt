@@ -1,6 +1,6 @@
 -- The machine of the flag is whole, and the calls on it are ones that may be made.
-use Rattle.std.proofs.Common.{◌≡◌, ℕ, zero, suc, ◌<◌, ◌≤◌, ◌+◌, Bool, true, false, List, [], ◌∷◌, length, Some, None, refl, sym, subst, ap, ◌∙◌, arith}
-use Rattle.std.specs.Prelude.{nat_eq, ◌&&◌, map, slice_get, slice_index_or, IsTrue}
+use Rattle.std.proofs.Common.{◌≡◌, ℕ, zero, suc, ◌<◌, ◌≤◌, ◌+◌, Bool, true, false, List, [], ◌∷◌, length, Some, refl, sym, subst, ap, ◌∙◌, arith}
+use Rattle.std.specs.Prelude.{nat_eq, ◌&&◌, slice_get, IsTrue}
 use Rattle.std.specs.List.{All, IsDistinct, list_all}
 use Rattle.std.specs.Option.{option_map_or}
 use Rattle.term_core.specs.declared.value.Value.{Value}
@@ -20,12 +20,12 @@ use Rattle.term_core.specs.declared.term.Term.TheBlock.{hidden-the_row-Term-0, s
 use denote.Hole.Carrier.{hidden}
 use Rattle.lemma_strengthen.specs.declared.formula.Formula.{Formula}
 use Rattle.other_abstract.specs.declared.node.AbsNode.{AbsNode}
-use Rattle.other_abstract.specs.declared.node.AbsNode.TheVariants.{Kept, Fired}
+use Rattle.other_abstract.specs.declared.node.AbsNode.TheVariants.{Fired}
 use Rattle.other_abstract.specs.declared.value.AbsValue.TheVariants.{Truth, Undefined}
 use Rattle.other_abstract.specs.declared.machine.AbstractMachine.{AbstractMachine}
 use Rattle.other_abstract.specs.Windows.{Window, size, may_have}
 use Rattle.other_abstract.specs.May.{AbsCells}
-use Rattle.other_abstract.specs.Machines.{window, fired_of, IsPattern, FitsWindow}
+use Rattle.other_abstract.specs.Machines.{window, IsPattern, FitsWindow}
 use Rattle.other_abstract.specs.Making.{IsMade}
 use Rattle.abstract_rows.specs.Terms.{truth, family, update, rule}
 use Rattle.abstract_rows.specs.Flag.{flag, begins, sets, never, IsFlag}

@@ -109,7 +109,7 @@ fn formulas(alloc: Global) -> Result<Vec<Formula>, Memory>
     Ok(formulas)
 }
 
-fn made(alloc: Global) -> Result<AbstractMachine, Memory>
+pub(crate) fn made(alloc: Global) -> Result<AbstractMachine, Memory>
     ensures { IfOk result IsFlag }
 {
     let machine = machine(alloc)?;
@@ -121,7 +121,7 @@ fn made(alloc: Global) -> Result<AbstractMachine, Memory>
 }
 
 /// The state in which the flag is set or not.
-fn state(alloc: Global, set: bool) -> Result<AbsState, Memory>
+pub(crate) fn state(alloc: Global, set: bool) -> Result<AbsState, Memory>
     ensures { IfOk result (λ s. s.values ≡ Truth set ∷ []) }
 {
     let mut values = Items::new(alloc);

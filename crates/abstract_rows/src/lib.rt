@@ -9,6 +9,8 @@ ghost use Rattle.abstract_rows.specs.Starts.{StartsAreAsWorked, FaultsAreAsWorke
 
 #[cfg(test)]
 mod flag;
+#[cfg(test)]
+mod paths;
 
 /// What guards and reads may give in windows of one kept node.
 pub fn values_are_as_worked()
