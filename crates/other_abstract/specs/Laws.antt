@@ -13,15 +13,17 @@ use Rattle.term_core.specs.Cells.{State, IsState, cell_value, blank_state}
 use Rattle.term_core.specs.Firing.{IsReached, Fires, Starts, HasFalsePiece, IsFalseFor}
 use Rattle.term_core.specs.Firing as firing
 use Rattle.term_core.specs.Whole.{IsWhole}
+use Rattle.lemma_strengthen.specs.declared.formula.Formula.{Formula}
 use Rattle.other_abstract.specs.declared.node.AbsNode.{AbsNode}
 use Rattle.other_abstract.specs.declared.value.AbsValue.{AbsValue}
 use Rattle.other_abstract.specs.declared.value.AbsValue.TheVariants.{Truth}
 use Rattle.other_abstract.specs.declared.machine.AbstractMachine.{AbstractMachine}
 use Rattle.other_abstract.specs.Windows.{Window}
 use Rattle.other_abstract.specs.May.{AbsCells, May}
-use Rattle.other_abstract.specs.Tests.{may}
+use Rattle.other_abstract.specs.Tests.{may, may_fail}
 use Rattle.other_abstract.specs.Images.{IsChoice, is_chosen, renamed_node, renamed, window_of, image, pattern_of, extended}
-use Rattle.other_abstract.specs.Machines.{AbsFires, AbsStarts, MayFault, AllHold, FormulasFit, PrefixesFit, IsSafe, IsInductive, NoStartFaults, IsPattern}
+use Rattle.other_abstract.specs.Machines.{AbsFires, AbsStarts, MayFault, AllHold, FormulasFit, PrefixesFit, IsSafe, IsInductive, NoStartFaults, IsPattern, FitsWindow, Violates, window, fired_of}
+use Rattle.other_abstract.specs.Stepping.{is_step, is_start, may_fault}
 use Rattle.other_abstract.specs.Joining.{MayAnd, MayOr}
 use Rattle.other_abstract.specs.Patterns.{patterns_of}
 
@@ -175,3 +177,37 @@ PatternsAreListed =
     → ((p : List AbsNode) → IsPattern m r p ↔ Contains (patterns_of m r) p)
     × ((i j : ℕ) (p : List AbsNode) → slice_get (patterns_of m r) i ≡ Some p → slice_get (patterns_of m r) j
     ≡ Some p → i ≡ j)
+
+-- Tests
+
+-- With a pattern of a rule and states that fit their windows, the test says whether firing the rule may lead from
+-- one kept state to the other by the wide state;
+abbrev pub StepsAreDecided : Type 0
+StepsAreDecided =
+    (M : AbstractMachine) (s : AbsCells) (k : ℕ) (r : TermRule) (p : List AbsNode) (w t : AbsCells)
+    → slice_get M.machine.rules k ≡ Some r
+    → IsPattern M.kept r p
+    → FitsWindow (window M (fired_of p)) w
+    → FitsWindow (window M 0) t
+    → IsTrue (is_step M s r p w t) ↔ AbsFires M s k p w t
+
+-- so does that of starts, for what a start may leave,
+abbrev pub StartsAreDecided : Type 0
+StartsAreDecided =
+    (M : AbstractMachine) (k : ℕ) (r : TermRule) (p : List AbsNode) (t : AbsCells)
+    → slice_get M.machine.starts k ≡ Some r
+    → IsPattern M.kept r p
+    → FitsWindow (window M 0) t
+    → IsTrue (is_start M r p t) ↔ AbsStarts M k p t
+
+-- that of violations,
+abbrev pub ViolationsAreDecided : Type 0
+ViolationsAreDecided =
+    (M : AbstractMachine) (s : AbsCells) (f : Formula)
+    → IsTrue (may_fail (window M 0) s f.prefix f.body) ↔ Violates M s f
+
+-- and that of faults.
+abbrev pub FaultsAreDecided : Type 0
+FaultsAreDecided =
+    (M : AbstractMachine) (r : TermRule) (p : List AbsNode)
+    → IsTrue (may_fault M r p) ↔ MayFault M r p

@@ -4,6 +4,7 @@ ghost use Rattle.other_abstract.specs.Laws.{ValuesMayBeHad, TestsSayWhatMayBe, C
 ghost use Rattle.other_abstract.specs.Laws.{StepsAreCovered, StartsAreCovered, StartFaultsAreCovered};
 ghost use Rattle.other_abstract.specs.Laws.{SafeRunsAreCovered, InductiveRunsAreCovered, NoStartFaulty};
 ghost use Rattle.other_abstract.specs.Laws.{PatternsAreListed};
+ghost use Rattle.other_abstract.specs.Laws.{StepsAreDecided, StartsAreDecided, ViolationsAreDecided, FaultsAreDecided};
 
 use term_core::laws::{
     lists_are_in_order, places_are_those_of_the_cells, states_have_a_value_at_each_cell,
@@ -60,3 +61,14 @@ pub fn runs_are_covered()
 pub fn patterns_are_listed()
     ensures { PatternsAreListed }
 {}
+
+/// What a step, a start, a violation and a fault of a start are is computed by tests.
+pub fn definitions_are_decided()
+    ensures steps { StepsAreDecided }
+    ensures starts { StartsAreDecided }
+    ensures violations { ViolationsAreDecided }
+    ensures faults { FaultsAreDecided }
+{
+    lists_are_in_order();
+    places_are_those_of_the_cells();
+}

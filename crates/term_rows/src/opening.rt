@@ -15,14 +15,14 @@ use term_core::text::{Memory, Text};
 
 /// A piece, the length of the prefix, and the text of the opened body.
 #[derive(Clone, Copy)]
-struct Row {
-    binders: u32,
-    steps: &'static [Make],
+pub struct Row {
+    pub binders: u32,
+    pub steps: &'static [Make],
     length: u32,
     opened: &'static [u8],
 }
 
-const ROWS: [Row; 18] = [
+pub const ROWS: [Row; 18] = [
     // all i, all j: m[i][j]
     Row {
         binders: 0,
@@ -248,7 +248,7 @@ const ROWS: [Row; 18] = [
 ];
 
 /// The formulas of a piece.
-fn opened(alloc: Global, row: Row) -> Result<Items<Formula>, Memory> {
+pub fn opened(alloc: Global, row: Row) -> Result<Items<Formula>, Memory> {
     let body = term(alloc, row.steps)?;
     let mut pieces = Items::new(alloc);
     if row.binders <= row.length {
@@ -305,7 +305,14 @@ struct Instances {
     texts: &'static [u8],
 }
 
-const INSTANCES: [Instances; 6] = [
+const INSTANCES: [Instances; 14] = [
+    // without a prefix there is the body itself
+    Instances {
+        steps: &[Var(0), Var(0), Read(M, 2), One],
+        prefix: 0,
+        window: 1,
+        texts: b"Em(v1,v1,) ",
+    },
     Instances {
         steps: &[Var(0), Var(0), Read(M, 2), One],
         prefix: 0,
@@ -313,10 +320,47 @@ const INSTANCES: [Instances; 6] = [
         texts: b"Em(v2,v2,) ",
     },
     Instances {
+        steps: &[Var(0), Var(0), Read(M, 2), One],
+        prefix: 0,
+        window: 3,
+        texts: b"Em(v3,v3,) ",
+    },
+    Instances {
+        steps: &[Var(0), Var(0), Read(M, 2), One],
+        prefix: 0,
+        window: 4,
+        texts: b"Em(v4,v4,) ",
+    },
+    Instances {
+        steps: &[Var(0), Var(0), Read(M, 2)],
+        prefix: 1,
+        window: 1,
+        texts: b"m(v0,v0,) ",
+    },
+    Instances {
+        steps: &[Var(0), Var(0), Read(M, 2)],
+        prefix: 1,
+        window: 2,
+        texts: b"m(v0,v0,) m(v1,v1,) ",
+    },
+    Instances {
         steps: &[Var(0), Var(0), Read(M, 2)],
         prefix: 1,
         window: 3,
         texts: b"m(v0,v0,) m(v1,v1,) m(v2,v2,) ",
+    },
+    Instances {
+        steps: &[Var(0), Var(0), Read(M, 2)],
+        prefix: 1,
+        window: 4,
+        texts: b"m(v0,v0,) m(v1,v1,) m(v2,v2,) m(v3,v3,) ",
+    },
+    // the first variable is the slowest
+    Instances {
+        steps: &[Var(0), Var(1), Read(M, 2)],
+        prefix: 2,
+        window: 1,
+        texts: b"m(v0,v0,) ",
     },
     Instances {
         steps: &[Var(0), Var(1), Read(M, 2)],
@@ -327,9 +371,17 @@ const INSTANCES: [Instances; 6] = [
     Instances {
         steps: &[Var(0), Var(1), Read(M, 2)],
         prefix: 2,
-        window: 1,
-        texts: b"m(v0,v0,) ",
+        window: 3,
+        texts: b"m(v0,v0,) m(v0,v1,) m(v0,v2,) m(v1,v0,) m(v1,v1,) m(v1,v2,) m(v2,v0,) m(v2,v1,) m(v2,v2,) ",
     },
+    Instances {
+        steps: &[Var(0), Var(1), Read(M, 2)],
+        prefix: 2,
+        window: 4,
+        texts: b"m(v0,v0,) m(v0,v1,) m(v0,v2,) m(v0,v3,) m(v1,v0,) m(v1,v1,) m(v1,v2,) m(v1,v3,) \
+            m(v2,v0,) m(v2,v1,) m(v2,v2,) m(v2,v3,) m(v3,v0,) m(v3,v1,) m(v3,v2,) m(v3,v3,) ",
+    },
+    // what the body binds is numbered past the window
     Instances {
         steps: &[Var(0), Var(1), Read(M, 2), One],
         prefix: 1,

@@ -129,7 +129,7 @@ pub fn term(alloc: Global, steps: &[Make]) -> Result<Term, Memory> {
     Ok(only.into_inner())
 }
 
-fn family(
+pub fn family(
     alloc: Global,
     name: &[u8],
     sort: Sort,
@@ -160,7 +160,7 @@ pub fn machine(alloc: Global) -> Result<TermMachine, Memory> {
 }
 
 /// Gives a cell a value, if there is such a cell and it may have it.
-fn put(state: &mut NodeState, family: u32, at: &[u32], value: Value) -> bool {
+pub fn put(state: &mut NodeState, family: u32, at: &[u32], value: Value) -> bool {
     if !state.has_cell(family, at) {
         return false;
     }
