@@ -1,0 +1,3 @@
+pub mod KeyEquations
+pub mod ListLemmas
+pub mod WayEquations
