@@ -1,5 +1,5 @@
 -- The first designator that writes a slot, layer by layer.
-use Rattle.std.proofs.Common.{◌≡◌, ℕ, List, Option, None, Some, refl}
+use Rattle.std.proofs.Common.{◌≡◌, ℕ, List, Option, None, refl}
 use Rattle.std.specs.declared.rc.Rc.{Rc}
 use Rattle.std.specs.declared.alloc.Global.{Global}
 use Rattle.term_core.specs.declared.term.Term.{Term}

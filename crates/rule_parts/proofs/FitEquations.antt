@@ -1,5 +1,5 @@
 -- How a family lies under a place, in terms of the parts that code reads.
-use Rattle.std.proofs.Common.{◌≡◌, ℕ, zero, suc, ◌+◌, ◌<◌, ◌≤◌, Bool, true, false, List, [], ◌∷◌, ◌++◌, map, drop, length, Option, None, Some, refl, sym, ap, ◌∙◌, subst, arith, append_assoc, append-nil}
+use Rattle.std.proofs.Common.{◌≡◌, ℕ, zero, suc, ◌+◌, ◌<◌, ◌≤◌, Bool, true, false, List, [], ◌∷◌, ◌++◌, map, drop, length, Option, None, Some, refl, sym, ap, ◌∙◌, arith, append_assoc, append-nil}
 use Rattle.std.specs.Prelude.{slice_get, option_map, option_and_then, if◌then◌else◌}
 use Rattle.std.specs.Str.{bytes_eq}
 use Rattle.term_core.specs.declared.value.Value.{Value}
@@ -11,7 +11,7 @@ use Rattle.murphi_typed.specs.Store.{Owner, same_owner, beyond}
 use Rattle.rule_inline.specs.Tables.{Key, holes, Index, Axis, Among, Spot, Match, on_axis, on_value, matched}
 use Rattle.rule_parts.specs.declared.place.Index.{Index as HeldIndex}
 use Rattle.rule_parts.specs.Seen.{seen_index}
-use Rattle.rule_parts.specs.Steps.{no_match, axis_matched, value_matched, step_match, matched_to, matched_on, Fit, fit_with, fitted}
+use Rattle.rule_parts.specs.Steps.{no_match, axis_matched, value_matched, step_match, matched_to, matched_on, fit_with, fitted}
 use Rattle.rule_parts.proofs.ListLemmas.{mapped_joined, after_after, nothing_after, drop_end, drop_at}
 
 pub got_none : {A : Type 0} (xs : List A) (n : ℕ) → slice_get xs n ≡ None → drop n xs ≡ []

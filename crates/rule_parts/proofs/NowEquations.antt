@@ -1,9 +1,8 @@
 -- The terms of slots, layer by layer.
-use Rattle.std.proofs.Common.{◌≡◌, ℕ, ◌+◌, Bool, true, false, List, [], ◌∷◌, ◌++◌, map, zero, suc, Option, None, Some, refl, sym, ap, ◌∙◌}
+use Rattle.std.proofs.Common.{◌≡◌, ℕ, Bool, true, false, List, [], ◌∷◌, map, zero, suc, Option, None, Some, refl, ap, ◌∙◌}
 use Rattle.std.specs.Prelude.{slice_get, nat_eq, is_some, unwrap_or, option_map, option_and_then, if◌then◌else◌}
 use Rattle.std.specs.Option.{option_map_or}
 use Rattle.std.specs.Str.{bytes_eq}
-use Rattle.term_core.specs.declared.value.Value.{Value}
 use Rattle.term_core.specs.declared.term.Term as t
 use Rattle.term_core.specs.Substitution.{lifted}
 use Rattle.murphi_typed.specs.declared.types.AnyType.{AnyType}
@@ -23,9 +22,9 @@ use Rattle.rule_parts.specs.declared.place.Owner.{Owner as HeldOwner}
 use Rattle.rule_parts.specs.declared.place.Owner.TheVariants as owner
 use Rattle.rule_parts.specs.declared.now.Own.TheVariants as own
 use Rattle.rule_parts.specs.Seen.{seen_owner, seen_spot}
-use Rattle.rule_parts.specs.Steps.{Tested, Fit, fit_with, fitted, chained}
-use Rattle.rule_parts.specs.Layers.{over, givens, left_change, seen_layer, seen_shown, seen_given, row_given, new_if_fit, new_or_old, marks_if_fit, written_first, left_first, left_term, if_family, if_own_axis, first_of, own_variable, read_entry}
-use Rattle.rule_inline.specs.Tables.{Key, holes, Slot, Family, Leaving, Result, axes, Terms, Marks, marks_of, axis_in, Spot, Entry, chain_of, shown_at, Shown, Match, matched, renewed_term, renewed_by, new_terms, Change, or_else, closed}
+use Rattle.rule_parts.specs.Steps.{fit_with, chained}
+use Rattle.rule_parts.specs.Layers.{givens, left_change, seen_layer, seen_shown, seen_given, row_given, new_if_fit, new_or_old, marks_if_fit, written_first, left_first, left_term, if_family, if_own_axis, first_of, own_variable, read_entry}
+use Rattle.rule_inline.specs.Tables.{Key, holes, Slot, Family, Leaving, Result, axes, Terms, marks_of, axis_in, Spot, Entry, chain_of, shown_at, Shown, Match, matched, renewed_term, new_terms, Change, or_else, closed}
 use Rattle.rule_inline.specs.Parts.{Given, Filled, Standing, undefined}
 use Rattle.rule_inline.specs.Bodies.{cleared, given_terms, entered, back, back_first}
 use Rattle.rule_inline.specs.Machine.{CellsOf, first_terms}

@@ -1,5 +1,5 @@
 -- What contracts see of the values that the code works with: the same, in the words of the translation.
-use Rattle.std.specs.Prelude.{ℕ, List, [], ◌∷◌, map, Option, None, Some}
+use Rattle.std.specs.Prelude.{map}
 use Rattle.murphi_typed.specs.Families.{Path, Step, Into, Over}
 use Rattle.murphi_typed.specs.Store.{Owner, Global, Local, Formal}
 use Rattle.rule_inline.specs.Machine.{CellsOf}

@@ -11,7 +11,7 @@ use Rattle.murphi_typed.specs.declared.types.Simple.{Simple}
 use Rattle.murphi_typed.specs.declared.types.Field.{Field}
 use Rattle.murphi_typed.specs.Families.{Name, Path, leaf_at}
 use Rattle.murphi_typed.specs.Store.{Owner, same_owner, beyond}
-use Rattle.rule_inline.specs.Tables.{Key, holes, Marks, Index, Axis, Among, Spot, Entry, entries, Match, matched}
+use Rattle.rule_inline.specs.Tables.{Key, holes, Marks, Index, Axis, Among, Spot, Entry, Match, matched}
 
 -- the first index that is the variable, where so many were passed before
 abbrev pub axis_from : ℕ → ℕ → Marks → Option ℕ

@@ -1,22 +1,27 @@
-//! The steps by which the term of a slot is worked out from the layers: what a layer makes of the terms that the
-//! layers below give.
+//! The term of a slot, and the first designator that writes it, worked out from the layers.
 
 #![tactic(auto, using(crate::proofs::NowEquations::nows))]
 
-ghost use Rattle.std.specs.Prelude.{◌≡◌, ◌+◌, ◌++◌, IfOk};
+ghost use Rattle.std.specs.Prelude.{◌≡◌, ◌+◌, ◌++◌, map, slice_get, is_some, option_and_then, IfOk, if◌then◌else◌};
+ghost use Rattle.std.specs.Option.{option_map_or};
 ghost use Rattle.term_core.specs.declared.term.Term.{And, If};
 ghost use Rattle.term_core.specs.Substitution.{lifted, placed};
-ghost use Rattle.rule_inline.specs.Tables.{axes, variables, lifted_all, closed};
-ghost use Rattle.rule_parts.specs.Seen.{family_slot, seen_slot};
-ghost use Rattle.rule_parts.specs.Layers.{own_variable};
+ghost use Rattle.rule_inline.specs.Tables.{Leaving, axes, axis_in, variables, lifted_all, closed, shown_at};
+ghost use Rattle.rule_inline.specs.Bodies.{given_terms, entered, back};
+ghost use Rattle.rule_parts.specs.Seen.{family_slot, seen_spot, seen_slot, seen_entry, seen_tested, seen_family};
+ghost use Rattle.rule_parts.specs.Layers.{seen_layer, seen_shown, term_in, givens, left_term, first_of, read_entry, new_or_old, own_variable};
 
-use crate::entry::Entry;
-use crate::fit::Match;
-use crate::place::{Owner, Slot, Spot, add_parts, add_texts, axes};
+use crate::entry::{Entry, Tested, all_tests, chain, entries};
+use crate::family::{Family, first_term};
+use crate::first::{first, own_axis};
+use crate::fit::{Match, fit_of};
+use crate::layer::{Given, Layer, Shown};
+use crate::leaf::cleared;
+use crate::place::{Owner, Slot, Spot, add_parts, add_texts, axes, holes};
 use murphi_ast::text::Text;
-use rule_terms::build::{added, choice, lift, lift_all, variables};
+use rule_terms::build::{added, choice, lift, lift_all, truth, undefined, variables};
 use rule_terms::dropped::{Pair, dropped};
-use sqlite_items::Items;
+use sqlite_items::{Items, at};
 use std::alloc::Global;
 use term_core::substitute::place;
 use term_core::term::Term;
@@ -26,15 +31,15 @@ use term_core::value::Value;
 /// What is asked of the cells under a place: with how many variables bound, under which place, and the fields
 /// and indices that follow it.
 #[derive(Clone, Copy)]
-pub struct Asked<'a> {
-    pub frame: u32,
-    pub spot: &'a Spot,
-    pub path: &'a [Text],
-    pub key: &'a [Option<Value>],
+struct Asked<'a> {
+    frame: u32,
+    spot: &'a Spot,
+    path: &'a [Text],
+    key: &'a [Option<Value>],
 }
 
 /// The new term where the place is the family at this cell, else the old one.
-pub fn renewed(alloc: Global, frame: u32, m: Match, new: &Term, old: Term) -> Result<Term, Memory>
+fn renewed(alloc: Global, frame: u32, m: Match, new: &Term, old: Term) -> Result<Term, Memory>
     ensures { IfOk result (λ t. t ≡ If (And (m.tests ++ m.sames)) (lifted frame m.count new.now) old) }
 {
     let new = lift(alloc, new, frame, m.count)?;
@@ -44,8 +49,7 @@ pub fn renewed(alloc: Global, frame: u32, m: Match, new: &Term, old: Term) -> Re
     Ok(t)
 }
 
-/// What is read of a term through a place, at the terms of its node indices.
-pub fn placed_read(
+fn placed_read(
     alloc: Global,
     frame: u32,
     axes: u32,
@@ -64,8 +68,7 @@ pub fn placed_read(
     Ok(t)
 }
 
-/// The slot that is read through one of the families of a place.
-pub fn entry_slot(alloc: Global, asked: Asked<'_>, e: &Entry) -> Result<Slot, Memory>
+fn entry_slot(alloc: Global, asked: Asked<'_>, e: &Entry) -> Result<Slot, Memory>
     ensures { IfOk result (λ s. seen_slot s ≡ family_slot asked.entry.spot.now.owner (asked.entry.spot.now.path ++ asked.entry.path.now) (e.now.key ++ asked.entry.key.now)) }
 {
     let path = add_texts(alloc, Items::new(alloc), asked.spot.path.as_slice())?;
@@ -80,7 +83,7 @@ pub fn entry_slot(alloc: Global, asked: Asked<'_>, e: &Entry) -> Result<Slot, Me
 }
 
 /// The term after all turns of a loop.
-pub fn closed(alloc: Global, frame: u32, count: u32, k: u32, body: &Term) -> Result<Term, Memory>
+fn closed(alloc: Global, frame: u32, count: u32, k: u32, body: &Term) -> Result<Term, Memory>
     ensures { IfOk result (λ t. t ≡ closed frame count k body.now) }
 {
     let own = added(frame, k)?;
@@ -100,7 +103,7 @@ pub fn closed(alloc: Global, frame: u32, count: u32, k: u32, body: &Term) -> Res
 }
 
 /// One of two terms over the axes of a slot, by a test that is lifted over these.
-pub fn chosen_by(
+fn chosen_by(
     alloc: Global,
     frame: u32,
     slot: &Slot,
@@ -118,14 +121,13 @@ pub fn chosen_by(
 
 /// Whose variable a family is of, for a body that is entered at a depth.
 #[derive(Clone, Copy)]
-pub enum Own {
+enum Own {
     Other,
     Local,
     Formal(u32),
 }
 
-/// Whose variable a family of this owner is.
-pub fn own_variable(depth: u32, owner: Owner) -> Own
+fn own_variable(depth: u32, owner: Owner) -> Own
     ensures { result ≡ own_variable depth owner }
 {
     match owner {
@@ -138,5 +140,428 @@ pub fn own_variable(depth: u32, owner: Owner) -> Own
                 Own::Other
             }
         }
+    }
+}
+
+/// The term of a slot after the parts that the layer stands for.
+#[cycle(now)]
+pub fn now(alloc: Global, families: &[Family], layer: &Layer, slot: &Slot) -> Result<Term, Memory>
+    ensures { IfOk result (λ t. t ≡ term_in families.now layer.now (seen_slot slot.now)) }
+{
+    match layer {
+        Layer::First { frame } => {
+            let t = first_term(alloc, families, *frame, slot)?;
+            Ok(t)
+        }
+        Layer::Under { frame, before } => {
+            let t = under(alloc, families, before, *frame, slot)?;
+            Ok(t)
+        }
+        Layer::Nothing { before } => {
+            let t = now(alloc, families, before, slot)?;
+            Ok(t)
+        }
+        Layer::Then { second, .. } => {
+            let t = now(alloc, families, second, slot)?;
+            Ok(t)
+        }
+        Layer::Written {
+            frame,
+            before,
+            spot,
+            new,
+        } => {
+            let t = written(alloc, families, before, new, *frame, spot, slot)?;
+            Ok(t)
+        }
+        Layer::Left { before, result } => {
+            let t = left(alloc, families, before, result, slot)?;
+            Ok(t)
+        }
+        Layer::Branch {
+            frame,
+            test,
+            taken,
+            other,
+        } => {
+            let t = branch(alloc, families, taken, other, *frame, test, slot)?;
+            Ok(t)
+        }
+        Layer::Chosen { before, chain } => {
+            let t = chosen(alloc, families, before, chain, slot)?;
+            Ok(t)
+        }
+        Layer::Kept {
+            frame,
+            before,
+            after,
+        } => {
+            let t = kept(alloc, families, before, after, *frame, slot)?;
+            Ok(t)
+        }
+        Layer::Closed {
+            frame,
+            before,
+            body,
+        } => {
+            let t = over_nodes(alloc, families, before, body, *frame, slot)?;
+            Ok(t)
+        }
+        Layer::Entered {
+            depth,
+            given,
+            before,
+        } => {
+            let t = entered(alloc, families, before, given.as_slice(), *depth, slot)?;
+            Ok(t)
+        }
+        Layer::Back { before, body } => {
+            let t = back(alloc, families, before, body, slot)?;
+            Ok(t)
+        }
+    }
+}
+
+#[cycle(now)]
+fn under(
+    alloc: Global,
+    families: &[Family],
+    before: &Layer,
+    frame: u32,
+    slot: &Slot,
+) -> Result<Term, Memory>
+    ensures { IfOk result (λ t. t ≡ lifted frame 1 (term_in families.now before.now (seen_slot slot.now))) }
+{
+    let t = now(alloc, families, before, slot)?;
+    let t = lift(alloc, &t, frame, 1)?;
+    Ok(t)
+}
+
+#[cycle(now)]
+fn written(
+    alloc: Global,
+    families: &[Family],
+    before: &Layer,
+    new: &Shown,
+    frame: u32,
+    spot: &Spot,
+    slot: &Slot,
+) -> Result<Term, Memory>
+    ensures { IfOk result (λ t. t ≡ new_or_old frame (seen_spot spot.now) (seen_shown new.now (map seen_family families.now)) (seen_slot slot.now) (term_in families.now before.now (seen_slot slot.now))) }
+{
+    let old = now(alloc, families, before, slot)?;
+    let t = written_term(alloc, families, new, frame, spot, slot, old)?;
+    Ok(t)
+}
+
+#[cycle(now)]
+fn left(
+    alloc: Global,
+    families: &[Family],
+    before: &Layer,
+    of: &Option<Term>,
+    slot: &Slot,
+) -> Result<Term, Memory>
+    ensures { IfOk result (λ t. t ≡ left_term of.now (seen_slot slot.now) (term_in families.now before.now (seen_slot slot.now))) }
+{
+    match slot {
+        Slot::Leaving => Ok(truth(true)),
+        Slot::Result => match of {
+            Some(t) => {
+                let t = t.copy(alloc)?;
+                Ok(t)
+            }
+            None => {
+                let t = now(alloc, families, before, slot)?;
+                Ok(t)
+            }
+        },
+        Slot::Family { .. } => {
+            let t = now(alloc, families, before, slot)?;
+            Ok(t)
+        }
+    }
+}
+
+#[cycle(now)]
+fn branch(
+    alloc: Global,
+    families: &[Family],
+    taken: &Layer,
+    other: &Layer,
+    frame: u32,
+    test: &Term,
+    slot: &Slot,
+) -> Result<Term, Memory>
+    ensures { IfOk result (λ t. t ≡ If (lifted frame (axes (seen_slot slot.now)) test.now) (term_in families.now taken.now (seen_slot slot.now)) (term_in families.now other.now (seen_slot slot.now))) }
+{
+    let yes = now(alloc, families, taken, slot)?;
+    let no = now(alloc, families, other, slot)?;
+    let t = chosen_by(alloc, frame, slot, test, yes, no)?;
+    Ok(t)
+}
+
+#[cycle(now)]
+fn chosen(
+    alloc: Global,
+    families: &[Family],
+    before: &Layer,
+    chain: &Layer,
+    slot: &Slot,
+) -> Result<Term, Memory>
+    ensures { IfOk result (λ t. t ≡ (if is_some (first_of chain.now (seen_slot slot.now)) then (term_in families.now chain.now (seen_slot slot.now)) else (term_in families.now before.now (seen_slot slot.now)))) }
+{
+    match first(alloc, chain, slot)? {
+        Some(_) => {
+            let t = now(alloc, families, chain, slot)?;
+            Ok(t)
+        }
+        None => {
+            let t = now(alloc, families, before, slot)?;
+            Ok(t)
+        }
+    }
+}
+
+#[cycle(now)]
+fn kept(
+    alloc: Global,
+    families: &[Family],
+    before: &Layer,
+    after: &Layer,
+    frame: u32,
+    slot: &Slot,
+) -> Result<Term, Memory>
+    ensures { IfOk result (λ t. t ≡ (if is_some (first_of after.now (seen_slot slot.now)) then If (lifted frame (axes (seen_slot slot.now)) (term_in families.now before.now Leaving)) (term_in families.now before.now (seen_slot slot.now)) (term_in families.now after.now (seen_slot slot.now)) else (term_in families.now after.now (seen_slot slot.now)))) }
+{
+    let new = now(alloc, families, after, slot)?;
+    match first(alloc, after, slot)? {
+        Some(_) => {
+            let left = now(alloc, families, before, &Slot::Leaving)?;
+            let old = now(alloc, families, before, slot)?;
+            let t = chosen_by(alloc, frame, slot, &left, old, new)?;
+            Ok(t)
+        }
+        None => Ok(new),
+    }
+}
+
+#[cycle(now)]
+fn over_nodes(
+    alloc: Global,
+    families: &[Family],
+    before: &Layer,
+    body: &Layer,
+    frame: u32,
+    slot: &Slot,
+) -> Result<Term, Memory>
+    ensures { IfOk result (λ t. t ≡ option_map_or (λ k. closed frame (axes (seen_slot slot.now)) k (term_in families.now body.now (seen_slot slot.now))) (option_and_then (axis_in frame) (first_of body.now (seen_slot slot.now))) (term_in families.now before.now (seen_slot slot.now))) }
+{
+    match own_axis(alloc, body, frame, slot)? {
+        Some(k) => {
+            let t = now(alloc, families, body, slot)?;
+            let count = axes(slot)?;
+            let t = closed(alloc, frame, count, k, &t)?;
+            Ok(t)
+        }
+        None => {
+            let t = now(alloc, families, before, slot)?;
+            Ok(t)
+        }
+    }
+}
+
+#[cycle(now)]
+fn entered(
+    alloc: Global,
+    families: &[Family],
+    before: &Layer,
+    given: &[Given],
+    depth: u32,
+    slot: &Slot,
+) -> Result<Term, Memory>
+    ensures { IfOk result (λ t. t ≡ entered depth (givens (map seen_family families.now) given.now) (seen_layer before.now (map seen_family families.now)).now (seen_slot slot.now)) }
+{
+    match slot {
+        Slot::Leaving => Ok(truth(false)),
+        Slot::Result => Ok(undefined()),
+        Slot::Family { owner, path, key } => match own_variable(depth, *owner) {
+            Own::Other => {
+                let t = now(alloc, families, before, slot)?;
+                Ok(t)
+            }
+            Own::Local => Ok(undefined()),
+            Own::Formal(k) => {
+                let t = given_term(alloc, families, given, k, path.as_slice(), key.as_slice())?;
+                Ok(t)
+            }
+        },
+    }
+}
+
+#[cycle(now)]
+fn back(
+    alloc: Global,
+    families: &[Family],
+    before: &Layer,
+    body: &Layer,
+    slot: &Slot,
+) -> Result<Term, Memory>
+    ensures { IfOk result (λ t. t ≡ back (seen_layer before.now (map seen_family families.now)).now (seen_layer body.now (map seen_family families.now)) (seen_slot slot.now)) }
+{
+    match slot {
+        Slot::Family { .. } => {
+            let t = now(alloc, families, body, slot)?;
+            Ok(t)
+        }
+        Slot::Leaving | Slot::Result => {
+            let t = now(alloc, families, before, slot)?;
+            Ok(t)
+        }
+    }
+}
+
+/// The term of a slot once the cells under a place have new values.
+#[cycle(now)]
+fn written_term(
+    alloc: Global,
+    families: &[Family],
+    new: &Shown,
+    frame: u32,
+    spot: &Spot,
+    slot: &Slot,
+    old: Term,
+) -> Result<Term, Memory>
+    ensures { IfOk result (λ t. t ≡ new_or_old frame (seen_spot spot.now) (seen_shown new.now (map seen_family families.now)) (seen_slot slot.now) old) }
+{
+    match slot {
+        Slot::Family { owner, path, key } => {
+            match fit_of(alloc, spot, frame, *owner, path.as_slice(), key.as_slice())? {
+                None => Ok(old),
+                Some(f) => {
+                    let t = shown(
+                        alloc,
+                        families,
+                        new,
+                        f.further.as_slice(),
+                        f.matches.rest.as_slice(),
+                    )?;
+                    let t = renewed(alloc, frame, f.matches, &t, old)?;
+                    Ok(t)
+                }
+            }
+        }
+        Slot::Leaving => Ok(old),
+        Slot::Result => Ok(old),
+    }
+}
+
+/// The term of a cell under a place.
+#[cycle(now)]
+pub fn shown(
+    alloc: Global,
+    families: &[Family],
+    new: &Shown,
+    path: &[Text],
+    key: &[Option<Value>],
+) -> Result<Term, Memory>
+    ensures { IfOk result (λ t. t ≡ seen_shown new.now (map seen_family families.now) path.now key.now) }
+{
+    match new {
+        Shown::Only { frame, term } => {
+            let axes = holes(key)?;
+            let t = lift(alloc, term, *frame, axes)?;
+            Ok(t)
+        }
+        Shown::At { frame, from, spot } => {
+            let t = shown_at(alloc, families, from, *frame, spot, path, key)?;
+            Ok(t)
+        }
+        Shown::Cleared(of) => Ok(cleared(of, path)),
+        Shown::Undefined => Ok(undefined()),
+    }
+}
+
+/// The term of a cell under a place, from the terms of the families that the place may be.
+#[cycle(now)]
+pub fn shown_at(
+    alloc: Global,
+    families: &[Family],
+    from: &Layer,
+    frame: u32,
+    spot: &Spot,
+    path: &[Text],
+    key: &[Option<Value>],
+) -> Result<Term, Memory>
+    ensures { IfOk result (λ t. t ≡ shown_at frame (seen_layer from.now (map seen_family families.now)).now (seen_spot spot.now) path.now key.now) }
+{
+    let es = entries(alloc, spot.at.as_slice())?;
+    let asked = Asked {
+        frame,
+        spot,
+        path,
+        key,
+    };
+    let all = reads(alloc, families, from, asked, es.as_slice())?;
+    let t = chain(alloc, all)?;
+    Ok(t)
+}
+
+/// What is read through each of the families.
+#[cycle(now)]
+fn reads(
+    alloc: Global,
+    families: &[Family],
+    from: &Layer,
+    asked: Asked<'_>,
+    es: &[Entry],
+) -> Result<Items<Tested>, Memory>
+    ensures { IfOk result (λ out. map seen_tested out ≡ map (read_entry asked.entry.frame (seen_layer from.now (map seen_family families.now)).now (seen_spot asked.entry.spot.now) asked.entry.path.now asked.entry.key.now) (map seen_entry es.now)) }
+{
+    let mut out = Items::new(alloc);
+    for e in es {
+        let one = read_entry(alloc, families, from, asked, e)?;
+        out.push(one)?;
+    }
+    Ok(out)
+}
+
+#[cycle(now)]
+fn read_entry(
+    alloc: Global,
+    families: &[Family],
+    from: &Layer,
+    asked: Asked<'_>,
+    e: &Entry,
+) -> Result<Tested, Memory>
+    ensures { IfOk result (λ x. seen_tested x ≡ read_entry asked.entry.frame (seen_layer from.now (map seen_family families.now)).now (seen_spot asked.entry.spot.now) asked.entry.path.now asked.entry.key.now (seen_entry e.now)) }
+{
+    let slot = entry_slot(alloc, asked, e)?;
+    let t = now(alloc, families, from, &slot)?;
+    let axes = holes(asked.key)?;
+    let term = placed_read(alloc, asked.frame, axes, e.nodes.as_slice(), &t)?;
+    let test = all_tests(alloc, e.tests.as_slice(), asked.frame, axes)?;
+    Ok(Tested { test, term })
+}
+
+/// The term of a cell of a formal at the entry of a body.
+#[cycle(now)]
+fn given_term(
+    alloc: Global,
+    families: &[Family],
+    given: &[Given],
+    k: u32,
+    path: &[Text],
+    key: &[Option<Value>],
+) -> Result<Term, Memory>
+    ensures { IfOk result (λ t. t ≡ given_terms (slice_get (givens (map seen_family families.now) given.now) k) path.now key.now) }
+{
+    match at(given, k as usize) {
+        Some(Given::Filled { shown: new, .. }) => {
+            let t = shown(alloc, families, new, path, key)?;
+            Ok(t)
+        }
+        Some(Given::Standing(_)) => Ok(undefined()),
+        None => Ok(undefined()),
     }
 }
