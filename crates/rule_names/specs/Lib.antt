@@ -1,0 +1,2 @@
+-- Words for what code writes.
+pub mod Texts
