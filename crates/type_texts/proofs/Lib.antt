@@ -1,2 +1,3 @@
 -- Typing of texts and of lemmas.
 pub mod LemmaEquations
+pub mod TextEquations
