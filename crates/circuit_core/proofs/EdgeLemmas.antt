@@ -56,6 +56,16 @@ keeps_edges old new g = record {
   values = λ x e h. kept_edge x old.gates new.gates e g.gates h;
 }
 
+-- Keeping edges goes on.
+pub keeps_same : (c : Network) → KeepsEdges c c
+keeps_same c = record { edges = λ e h. h; values = λ x e h. refl }
+
+pub keeps_more : (old mid new : Network) → KeepsEdges old mid → KeepsEdges mid new → KeepsEdges old new
+keeps_more old mid new k l = record {
+  edges = λ e h. l.edges e (k.edges e h);
+  values = λ x e h. l.values x e (k.edges e h) ∙ k.values x e h;
+}
+
 -- the value of a gate that stands at a place
 pub placed_value : (c : Network) (x : ℕ → Bool) → IsNetwork c.inputs c.gates → (n : ℕ) (d : Gate) → n < length c.gates → node_value c x (n + 1) ≡ gate_value c x (get_or c.gates n d)
 unfolding edge_value node_value

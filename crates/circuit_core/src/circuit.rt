@@ -1,9 +1,9 @@
 //! Circuits: inputs, constants and conjunctions.
 
-ghost use Rattle.std.specs.Prelude.{◌≡◌, ◌&&◌, ◌≤◌, ◌<◌, ◌+◌, ℕ, Bool, false, [], length, take, IfOk, IfSome, OnOk, OnErr};
+ghost use Rattle.std.specs.Prelude.{◌≡◌, ◌&&◌, ◌||◌, ◌≤◌, ◌<◌, ◌+◌, ℕ, Bool, false, [], length, take, IfOk, IfSome, OnOk, OnErr};
 ghost use Rattle.std.specs.List.{slice_index_or};
 
-use crate::edge::{Edge, Gate};
+use crate::edge::{Edge, Gate, not};
 use crate::folding::folded;
 use crate::memory::Memory;
 use std::alloc::Global;
@@ -130,6 +130,24 @@ impl Circuit {
         match folded(a, b) {
             Some(e) => Ok(e),
             None => self.conjunction(a, b),
+        }
+    }
+
+    /// The disjunction of two edges.
+    pub fn or(&mut self, a: Edge, b: Edge) -> Result<Edge, Memory>
+        requires a_edge { IsEdge self.old a }
+        requires b_edge { IsEdge self.old b }
+        ensures edge { IfOk result (λ e. IsEdge self.new e) }
+        ensures value { IfOk result (λ e. (x : ℕ → Bool)
+            → edge_value self.new x e ≡ (edge_value self.old x a || edge_value self.old x b)) }
+        ensures inputs { self.new.inputs ≡ self.old.inputs }
+        ensures keeps { KeepsEdges self.old self.new }
+        ensures grows { Grows self.old self.new }
+        ensures err { OnErr result (self.new ≡ self.old) }
+    {
+        match self.and(not(a), not(b)) {
+            Ok(neither) => Ok(not(neither)),
+            Err(Memory) => Err(Memory),
         }
     }
 

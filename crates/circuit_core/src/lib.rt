@@ -8,6 +8,7 @@ pub mod choice;
 pub mod circuit;
 pub mod edge;
 mod folding;
+pub mod laws;
 pub mod memory;
 
 pub use circuit::Circuit;

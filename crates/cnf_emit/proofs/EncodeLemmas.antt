@@ -256,6 +256,9 @@ next_node c marks gates i d old new same net values closed inside e long is =
     )
 
 -- What the formula of a draft says, as code gives it.
+pub formula_count : (s : Sketch) (roots : List Edge) (lits : List Lit) → lits ≡ map (edge_lit s.lits) roots → length lits ≡ length roots
+formula_count s roots lits made = ap length made ∙ length-map roots (edge_lit s.lits)
+
 pub formula_range : (c : Network) (seen marks : List Bool) (s : Sketch) (roots : List Edge) (lits : List Lit) (n : ℕ) → seen ≡ marks → Encodes c seen s → All (λ e. node_of e < length s.lits) roots
     → All (IsMarked marks) roots → lits ≡ map (edge_lit s.lits) roots → n ≡ s.variables → IsInRange n lits
 formula_range c seen marks s roots lits n same e inside all made few =

@@ -30,6 +30,7 @@ pub struct Emitted {
 pub fn emit(alloc: Global, c: &Circuit, roots: &[Edge]) -> Result<Emitted, Memory>
     requires { All (IsEdge c.now) roots.now }
     ensures inputs { IfOk result (λ m. c.now.inputs ≤ m.cnf.variables) }
+    ensures count { IfOk result (λ m. length m.roots.items ≡ length roots.now) }
     ensures range { IfOk result (λ m. IsInRange m.cnf.variables m.roots.items) }
 
     // Each assignment of the inputs extends to exactly one that satisfies the formula.

@@ -1,7 +1,10 @@
 use Rattle.std.proofs.Common.{◌≡◌, length, sym, ap, subst, arith}
 use Rattle.cnf_emit.specs.Reach.{IsWithin}
-use Rattle.cnf_emit.proofs.EncodeLemmas.{formula_range, formula_roots, formula_extends}
+use Rattle.cnf_emit.proofs.EncodeLemmas.{formula_count, formula_range, formula_roots, formula_extends}
 use Rattle.cnf_emit.proofs.emission.emit.Goals as goal
+
+pub returns-clause-count : goal.returns-clause-count
+returns-clause-count c = formula_count c.in_ok-draft.draft c.args.roots.now c.in_ok-lits.lits.items c.in_ok-lits.ensures
 
 pub returns-clause-range : goal.returns-clause-range
 returns-clause-range c =

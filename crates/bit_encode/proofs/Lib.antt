@@ -1,0 +1,4 @@
+pub mod Growing
+pub mod SetLemmas
+pub mod Gaining
+pub mod CodeLemmas

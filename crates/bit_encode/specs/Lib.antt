@@ -1,0 +1,4 @@
+-- The words of the contracts of this crate, in reading order.
+pub mod Codes
+pub mod MaySets
+pub mod Coding

@@ -1,0 +1,11 @@
+//! The abstract machine in bits: its first parts.
+//!
+//! A cell's value is coded by its position in the list of the values that the cell may have, in bits.
+//! Whatever a term may be is a set of values with edges of a circuit: the edge of a value is true exactly
+//! where the term may have it.
+#![tactic(auto)]
+
+pub mod code;
+pub mod combine;
+mod gates;
+pub mod set;
