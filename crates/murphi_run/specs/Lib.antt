@@ -1,0 +1,6 @@
+-- How the cells of running bodies are kept, in reading order.
+pub mod Layout
+pub mod Holding
+pub mod Laws
+pub mod Lists
+pub mod Operators
