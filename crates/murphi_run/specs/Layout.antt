@@ -2,7 +2,7 @@
 -- cells under a field stand together, the fields in the order of their names, whatever their order in the text; and
 -- those under an index stand together, in the order of the values of the index type. So the cells under a place stand
 -- together too, and variables of one type have them in one order.
-use Rattle.std.specs.Prelude.{ℕ, ◌+◌, ◌-◌, ◌*◌, Bool, true, false, ◌&&◌, List, [], ◌∷◌, ℤ, pos, negsuc, ◌-ℤ◌, if◌then◌else◌}
+use Rattle.std.specs.Prelude.{ℕ, ◌+◌, ◌-◌, ◌*◌, Bool, true, false, ◌&&◌, List, [], ◌∷◌, Option, None, Some, ℤ, pos, negsuc, ◌-ℤ◌, if◌then◌else◌}
 use Rattle.std.specs.Str.{bytes_eq}
 use Rattle.std.specs.Ordering.{nat_cmp, is_lt}
 use Rattle.std.specs.Cmp.Lexicographic.{slice_cmp}
@@ -89,3 +89,24 @@ unfoldable mutual
   row_offset N end_of-Field name path at = 0
   row_offset N (more_of-Field field type rest) name path at =
       if bytes_eq field name then offset N type path at else row_offset N rest name path at
+
+-- nothing more is on the way down
+abbrev pub here : Path → AnyType → Option AnyType
+here [] type = Some type
+here (name ∷ path) type = None
+
+unfoldable mutual
+  -- the type of what field names and indices lead to, if they lead anywhere: each index within its index type
+  pub leads_to : ℕ → AnyType → Path → List Value → Option AnyType
+  leads_to N (t.Simple type) path [] = here path (t.Simple type)
+  leads_to N (t.Simple type) path (v ∷ at) = None
+  leads_to N (t.Record' shape fields) [] [] = Some (t.Record' shape fields)
+  leads_to N (t.Record' shape fields) [] (v ∷ at) = None
+  leads_to N (t.Record' shape fields) (name ∷ path) at = row_leads N fields name path at
+  leads_to N (ArrayForm index item) path [] = here path (ArrayForm index item)
+  leads_to N (ArrayForm index item) path (v ∷ at) = if is_value N index v then leads_to N item path at else None
+
+  pub row_leads : {n : _} → ℕ → Row_of-Field n → Name → Path → List Value → Option AnyType
+  row_leads N end_of-Field name path at = None
+  row_leads N (more_of-Field field type rest) name path at =
+      if bytes_eq field name then leads_to N type path at else row_leads N rest name path at

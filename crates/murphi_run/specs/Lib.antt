@@ -2,5 +2,6 @@
 pub mod Layout
 pub mod Holding
 pub mod Laws
+pub mod Blocks
 pub mod Lists
 pub mod Operators

@@ -30,7 +30,7 @@ pub(crate) fn is_same_name(a: &Text, b: &Text) -> bool
     a.bytes() == b.bytes()
 }
 
-fn plus(a: usize, b: usize) -> Result<usize, Memory>
+pub(crate) fn plus(a: usize, b: usize) -> Result<usize, Memory>
     ensures { IfOk result (λ n. n ≡ a + b) }
 {
     match a.checked_add(b) {

@@ -2,6 +2,7 @@
 //! each cell among those of its variable, and the list of their values.
 #![tactic(auto)]
 
+pub mod blocks;
 pub mod laws;
 pub mod layout;
 pub mod store;
