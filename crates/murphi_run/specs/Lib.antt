@@ -1,0 +1,7 @@
+-- How the cells of running bodies are kept, in reading order.
+pub mod Layout
+pub mod Holding
+pub mod Laws
+pub mod Blocks
+pub mod Lists
+pub mod Operators

@@ -1,0 +1,39 @@
+//! What holds of the numbers of cells, and of lists that hold them: laws, each on a function that does
+//! nothing.
+
+ghost use Rattle.murphi_run.specs.Blocks.{BlocksAreApart, BlanksAreHeld, EntriesAreHeld};
+ghost use Rattle.murphi_run.specs.Laws.{RanksAreWithin, RanksAreApart, CellsAreWithin, CellsAreApart, PlacesLeadOn, SameTypesStandAlike, ReadsAreThose, WritesAreThose};
+
+/// Values of a type and cells of a variable are numbered below how many there are, and each number is that
+/// of one only.
+pub fn numbers_are_those_of_one()
+    ensures ranks { RanksAreWithin }
+    ensures values { RanksAreApart }
+    ensures within { CellsAreWithin }
+    ensures cells { CellsAreApart }
+{}
+
+/// What stands under a place is numbered from the first of it on, as a variable of its type would be; and
+/// variables of one type are numbered alike, in whatever order the fields of records are written. So a
+/// `var` formal is the number of the first cell of what it stands for.
+pub fn places_have_the_numbers_of_their_types()
+    ensures under { PlacesLeadOn }
+    ensures alike { SameTypesStandAlike }
+{}
+
+/// Where a list holds the cells of the variables in scope, and their blocks have no cell in common, it has
+/// the value of a cell at its number, and with another value there it holds the cells in which that one is
+/// written: no other cell of any variable changes.
+pub fn reading_and_writing_go_by_numbers()
+    ensures reads { ReadsAreThose }
+    ensures writes { WritesAreThose }
+{}
+
+/// In the body of a rule or of a start state the blocks of its variables have no cell in common, a list of
+/// undefined values holds the cells where every cell is undefined, and a list that holds the globals holds
+/// the cells at the entry where undefined values stand behind it for the locals.
+pub fn bodies_are_entered_with_their_variables()
+    ensures apart { BlocksAreApart }
+    ensures blanks { BlanksAreHeld }
+    ensures entries { EntriesAreHeld }
+{}
