@@ -1,11 +1,11 @@
 -- Codes. A cell's value is coded by its position in the list of the values that the cell may have, and the
 -- position by bits, the lowest first.
-use Rattle.std.specs.Prelude.{ℕ, zero, suc, ◌+◌, ◌*◌, ◌/◌, ◌%◌, ◌^◌, Bool, true, false, ◌&&◌, not, nat_eq, nat_le, nat_lt, List, [], ◌∷◌, ◌++◌, length, if◌then◌else◌}
-use Rattle.std.specs.List.{slice_index_or}
+use Rattle.std.specs.Prelude.{ℕ, zero, suc, ◌+◌, ◌*◌, ◌/◌, ◌%◌, ◌^◌, Bool, true, false, ◌&&◌, not, nat_eq, nat_le, nat_lt, List, [], ◌∷◌, ◌++◌, length, replicate, if◌then◌else◌}
+use Rattle.std.specs.List.{slice_index_or, flat_map}
 use Rattle.term_core.specs.declared.machine.CellFamily.{CellFamily}
 use Rattle.other_abstract.specs.declared.value.AbsValue.{AbsValue}
 use Rattle.other_abstract.specs.declared.value.AbsValue.TheVariants.{Undefined}
-use Rattle.other_abstract.specs.Windows.{Window}
+use Rattle.other_abstract.specs.Windows.{Window, size}
 use Rattle.other_abstract.specs.May.{AbsCells}
 use Rattle.other_abstract.specs.Tests.{values_of}
 
@@ -53,6 +53,10 @@ picked p (v ∷ vs) zero = p v
 picked p (v ∷ vs) (suc n) = picked p vs n
 
 -- States. Each cell is given by the list of its values; the codes of the cells stand one after the other.
+
+-- the lists of values of the cells of a window, family by family
+abbrev pub cell_lists : Window → List (List AbsValue)
+cell_lists W = flat_map (λ (family : CellFamily). replicate (size W ^ family.axes) (cell_values W family)) W.families
 
 -- how many bits the cells take
 abbrev pub bit_count : List (List AbsValue) → ℕ

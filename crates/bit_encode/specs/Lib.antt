@@ -2,3 +2,6 @@
 pub mod Codes
 pub mod MaySets
 pub mod Coding
+pub mod Forms
+pub mod Laws
+pub mod Worked

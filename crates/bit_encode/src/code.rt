@@ -39,6 +39,7 @@ fn with_bit(circuit: &mut Circuit, e: Edge, bit: Edge, odd: bool) -> Result<Edge
     ensures edge { IfOk result (λ r. IsEdge circuit.new r) }
     ensures value { IfOk result (λ r. (x : ℕ → Bool) (val : EdgeOf → Bool) → Agrees circuit.new x val
         → val r ≡ (val e && (if odd then val bit else opposite (val bit)))) }
+    ensures inputs { circuit.new.inputs ≡ circuit.old.inputs }
     ensures keeps { KeepsEdges circuit.old circuit.new }
 {
     if odd {
@@ -54,6 +55,7 @@ pub fn is_number(circuit: &mut Circuit, bits: &[Edge], number: usize) -> Result<
     ensures edge { IfOk result (λ e. IsEdge circuit.new e) }
     ensures value { IfOk result (λ e. (x : ℕ → Bool) (val : EdgeOf → Bool) → Agrees circuit.new x val
         → val e ≡ matches number (map val bits.now)) }
+    ensures inputs { circuit.new.inputs ≡ circuit.old.inputs }
     ensures keeps { KeepsEdges circuit.old circuit.new }
 {
     let mut e = Circuit::truth(true);
@@ -80,6 +82,7 @@ fn add_place(
     ensures value { OnOk result ((x : ℕ → Bool) (val : EdgeOf → Bool) (p : Abs → Bool)
         → Agrees circuit.new x val
         → held val p out.new ≡ (held val p out.old || (p value && matches place (map val bits.now)))) }
+    ensures inputs { circuit.new.inputs ≡ circuit.old.inputs }
     ensures keeps { KeepsEdges circuit.old circuit.new }
 {
     let here = is_number(circuit, bits, place)?;
@@ -97,6 +100,7 @@ pub fn coded(
     ensures edges { IfOk result (λ out. HasEdges circuit.new out) }
     ensures value { IfOk result (λ out. (x : ℕ → Bool) (val : EdgeOf → Bool) (p : Abs → Bool)
         → Agrees circuit.new x val → held val p out ≡ picked p values.now (number_of (map val bits.now))) }
+    ensures inputs { circuit.new.inputs ≡ circuit.old.inputs }
     ensures keeps { KeepsEdges circuit.old circuit.new }
 {
     let mut out = MaySet::make(alloc);

@@ -16,6 +16,7 @@ pub fn both(circuit: &mut Circuit, a: Edge, b: Edge) -> Result<Edge, Memory>
     ensures edge { IfOk result (λ e. IsEdge circuit.new e) }
     ensures value { IfOk result (λ e. (x : ℕ → Bool) (val : EdgeOf → Bool) → Agrees circuit.new x val
         → val e ≡ (val a && val b)) }
+    ensures inputs { circuit.new.inputs ≡ circuit.old.inputs }
     ensures keeps { KeepsEdges circuit.old circuit.new }
 {
     let e = circuit.and(a, b)?;
@@ -29,6 +30,7 @@ pub fn either(circuit: &mut Circuit, a: Edge, b: Edge) -> Result<Edge, Memory>
     ensures edge { IfOk result (λ e. IsEdge circuit.new e) }
     ensures value { IfOk result (λ e. (x : ℕ → Bool) (val : EdgeOf → Bool) → Agrees circuit.new x val
         → val e ≡ (val a || val b)) }
+    ensures inputs { circuit.new.inputs ≡ circuit.old.inputs }
     ensures keeps { KeepsEdges circuit.old circuit.new }
 {
     let e = circuit.or(a, b)?;

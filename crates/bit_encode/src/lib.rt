@@ -5,7 +5,11 @@
 //! where the term may have it.
 #![tactic(auto)]
 
+pub mod agree;
+pub mod cell;
 pub mod code;
 pub mod combine;
 mod gates;
+pub mod laws;
 pub mod set;
+pub mod tally;

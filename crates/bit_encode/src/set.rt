@@ -2,7 +2,7 @@
 
 #![tactic(auto, using(crate::proofs::Growing::growing, crate::proofs::SetLemmas::members, crate::proofs::Gaining::gaining))]
 
-ghost use Rattle.std.specs.Prelude.{◌≡◌, ◌&&◌, ◌||◌, ◌<◌, ℕ, Bool, [], length, IfOk, IfSome, OnOk};
+ghost use Rattle.std.specs.Prelude.{◌≡◌, ◌&&◌, ◌||◌, ◌<◌, ℕ, Bool, true, [], length, IfOk, IfSome, OnOk};
 ghost use Rattle.std.specs.List.{slice_index_or};
 ghost use Rattle.circuit_core.specs.declared.edge.Edge.{Edge as EdgeOf};
 ghost use Rattle.circuit_core.specs.Network.{IsEdge};
@@ -71,13 +71,14 @@ impl MaySet {
         None
     }
 
-    /// Adds a value under an edge. The set keeps one edge for each value.
+    /// Adds a value under an edge: one that is there is possible under the old edge or the new one.
     pub fn add(&mut self, circuit: &mut Circuit, value: AbsValue, edge: Edge) -> Result<(), Memory>
         requires edge { IsEdge circuit.old edge }
         requires edges { HasEdges circuit.old self.old }
         ensures edges { OnOk result (HasEdges circuit.new self.new) }
         ensures value { OnOk result ((x : ℕ → Bool) (val : EdgeOf → Bool) (p : Abs → Bool)
             → Agrees circuit.new x val → held val p self.new ≡ (held val p self.old || (p value && val edge))) }
+        ensures inputs { circuit.new.inputs ≡ circuit.old.inputs }
         ensures keeps { KeepsEdges circuit.old circuit.new }
     {
         match self.place_of(value) {
@@ -176,6 +177,21 @@ pub fn edge_of(circuit: &mut Circuit, from: &[Possible], value: AbsValue) -> Res
     let mut any = Circuit::truth(false);
     for one in from {
         any = with_value(circuit, any, *one, value)?;
+    }
+    Ok(any)
+}
+
+/// The edge that is true where some value is possible.
+pub fn any_value(circuit: &mut Circuit, from: &[Possible]) -> Result<Edge, Memory>
+    requires edges { HasEdges circuit.old from.now }
+    ensures edge { IfOk result (λ e. IsEdge circuit.new e) }
+    ensures value { IfOk result (λ e. (x : ℕ → Bool) (val : EdgeOf → Bool) → Agrees circuit.new x val
+        → val e ≡ held val (λ v. true) from.now) }
+    ensures keeps { KeepsEdges circuit.old circuit.new }
+{
+    let mut any = Circuit::truth(false);
+    for one in from {
+        any = either(circuit, any, one.edge)?;
     }
     Ok(any)
 }

@@ -8,6 +8,7 @@ use Rattle.bit_encode.proofs.code.coded.Given as goal
 
 abbrev pub invariant-loop-place : goal.invariant-loop-place
 invariant-loop-place l = record {
+  inputs : l.circuit.inputs ≡ l.fn.circuit.inputs;
   keeps : KeepsEdges l.fn.circuit l.circuit;
   edges : HasEdges l.circuit l.out;
   value : (x : ℕ → Bool) (val : Edge → Bool) (p : AbsValue → Bool) → Agrees l.circuit x val → held val p l.out ≡ picked p (take l.place l.values) (number_of (map val l.bits));

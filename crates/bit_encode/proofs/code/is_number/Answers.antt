@@ -5,6 +5,7 @@ use Rattle.bit_encode.proofs.code.is_number.Goals as goal
 
 pub loop-bit-preserved : goal.loop-bit-preserved
 loop-bit-preserved c = record {
+  inputs = c.with_bit.ensures.inputs ∙ c.loop-bit.invariant.inputs;
   keeps = keeps_all _ _ _ c.loop-bit.invariant.keeps c.with_bit.ensures.keeps;
   edge = c.in_ok-e.ensures.edge;
   value = λ x val a. bit_step val _ _ _ _ _ _ c.loop-bit-test.true (c.in_ok-e.ensures.value x val a) ∙ c.loop-bit.invariant.value x val (agrees_before _ _ x val c.with_bit.ensures.keeps a);

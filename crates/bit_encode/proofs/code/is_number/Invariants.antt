@@ -8,6 +8,7 @@ use Rattle.bit_encode.proofs.code.is_number.Given as goal
 
 abbrev pub invariant-loop-bit : goal.invariant-loop-bit
 invariant-loop-bit l = record {
+  inputs : l.circuit.inputs ≡ l.fn.circuit.inputs;
   keeps : KeepsEdges l.fn.circuit l.circuit;
   edge : IsEdge l.circuit l.e;
   value : (x : ℕ → Bool) (val : Edge → Bool) → Agrees l.circuit x val → (val l.e && matches l.rest (map val (drop l.bit-index l.bits))) ≡ matches l.number (map val l.bits);

@@ -1,0 +1,5 @@
+use Rattle.bit_encode.proofs.Gaining.{any_one_more}
+use Rattle.bit_encode.proofs.set.any_value.Goals as goal
+
+pub loop-one-preserved : goal.loop-one-preserved
+loop-one-preserved c = any_one_more _ _ _ _ _ _ _ _ _ c.loop-one-test.true c.loop-one.invariant c.either.ensures.keeps c.in_ok-any.ensures.edge c.in_ok-any.ensures.value

@@ -1,0 +1,56 @@
+-- What holds of codes. Each statement is the contract of a public function of `laws` that does nothing.
+use Rattle.std.specs.Prelude.{◌≡◌, ℕ, ◌<◌, ◌≤◌, ◌^◌, Bool, List, length, IsTrue}
+use Rattle.circuit_core.specs.declared.edge.Edge.{Edge}
+use Rattle.other_abstract.specs.declared.value.AbsValue.{AbsValue}
+use Rattle.bit_encode.specs.declared.set.Possible.{Possible}
+use Rattle.other_abstract.specs.declared.node.AbsNode.{AbsNode}
+use Rattle.other_abstract.specs.Windows.{Window, same_value}
+use Rattle.other_abstract.specs.Machines.{read_kept}
+use Rattle.bit_encode.specs.MaySets.{held}
+use Rattle.bit_encode.specs.Forms.{FormsAreSaid}
+use Rattle.bit_encode.specs.Codes.{width, number_of, bits_of, bits_at, coded_place, coded_state, is_legal}
+use Rattle.bit_encode.specs.Coding.{Shows, AreCoded, IsExactly, legal_edges}
+
+-- The bits of a number stand for it, where there are enough of them.
+abbrev pub BitsStandForNumbers : Type 0
+BitsStandForNumbers = (w n : ℕ) → n < 2 ^ w → number_of (bits_of w n) ≡ n
+
+-- The width is the least that is enough.
+abbrev pub WidthsAreLeast : Type 0
+WidthsAreLeast = (n : ℕ) → (n ≤ 2 ^ width n) × ((b : ℕ) → n ≤ 2 ^ b → width n ≤ b)
+
+-- Inputs that are the bits of a position of the list code that position.
+abbrev pub PositionsHaveCodes : Type 0
+PositionsHaveCodes =
+    (x : ℕ → Bool) (first : ℕ) (values : List AbsValue) (place : ℕ)
+    → place < length values
+    → bits_at x first (width (length values)) ≡ bits_of (width (length values)) place
+    → coded_place x first values ≡ place
+
+-- Where the sets of cells are coded by inputs and the code is legal, the sets show the coded state.
+abbrev pub LegalCodesShowStates : Type 0
+LegalCodesShowStates =
+    (val : Edge → Bool) (x : ℕ → Bool) (first : ℕ) (lists : List (List AbsValue)) (cells : List (List Possible))
+    → AreCoded val x first lists cells
+    → IsTrue (is_legal x first lists)
+    → Shows val cells (coded_state x first lists)
+
+-- The code is legal exactly where each cell has some value.
+abbrev pub LegalCodesAreSeen : Type 0
+LegalCodesAreSeen =
+    (val : Edge → Bool) (x : ℕ → Bool) (first : ℕ) (lists : List (List AbsValue)) (cells : List (List Possible))
+    → AreCoded val x first lists cells
+    → legal_edges val cells ≡ is_legal x first lists
+
+-- Where each of two sets has one value, the edge of their agreement is true exactly where the one, with a fired node
+-- read as Other, is the other.
+abbrev pub AgreementIsSeen : Type 0
+AgreementIsSeen =
+    (val : Edge → Bool) (from to : List Possible) (v w : AbsValue)
+    → IsExactly val from v
+    → IsExactly val to w
+    → held val (λ u. held val (same_value (read_kept u)) to) from ≡ same_value (read_kept v) w
+
+-- The sets of all forms but reads come from those of their parts.
+abbrev pub FormsComeFromParts : Type 0
+FormsComeFromParts = (val : Edge → Bool) (cells : List (List Possible)) (W : Window) (env : List AbsNode) → FormsAreSaid val cells W env

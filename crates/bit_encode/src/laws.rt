@@ -1,0 +1,32 @@
+//! What holds of codes: laws, each on a function that does nothing.
+
+ghost use Rattle.bit_encode.specs.Worked.{WidthsAreAsWorked, CodesAreAsWorked, BitsAreAsCounted};
+ghost use Rattle.bit_encode.specs.Laws.{BitsStandForNumbers, PositionsHaveCodes, LegalCodesShowStates, LegalCodesAreSeen, WidthsAreLeast, AgreementIsSeen, FormsComeFromParts};
+
+/// The bits of a number stand for it, and each position of a list has a code in as many bits as the list takes.
+pub fn positions_have_codes()
+    ensures bits { BitsStandForNumbers }
+    ensures widths { WidthsAreLeast }
+    ensures positions { PositionsHaveCodes }
+{}
+
+/// Where cells are coded by inputs, a legal code shows the state that the inputs code; and the code is legal
+/// exactly where each cell has some value.
+pub fn codes_show_states()
+    ensures shows { LegalCodesShowStates }
+    ensures legal { LegalCodesAreSeen }
+    ensures agreement { AgreementIsSeen }
+{}
+
+/// What a form of term may be comes from what its parts may be, as `combine` and `tally` put the sets of the
+/// parts together: all forms but reads.
+pub fn forms_are_said()
+    ensures { FormsComeFromParts }
+{}
+
+/// Cases worked by hand: widths, codes of a flag and a pointer, and how many bits German's protocol takes.
+pub fn codes_are_as_worked()
+    ensures widths { WidthsAreAsWorked }
+    ensures codes { CodesAreAsWorked }
+    ensures counts { BitsAreAsCounted }
+{}
