@@ -11,3 +11,4 @@ pub mod BlockLemmas
 pub mod LayoutEquations
 pub mod CutLemmas
 pub mod ValueEquations
+pub mod PutLemmas
