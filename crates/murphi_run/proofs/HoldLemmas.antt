@@ -25,7 +25,7 @@ get_set_other (y ∷ xs) zero (suc j) x e = refl
 get_set_other (y ∷ xs) (suc k) zero x e = refl
 get_set_other (y ∷ xs) (suc k) (suc j) x e = get_set_other xs k j x (λ same. e (ap suc same))
 
-same_self : (x : Value) → same_value x x ≡ true
+pub same_self : (x : Value) → same_value x x ≡ true
 same_self v.Undefined = refl
 same_self (v.Truth true) = refl
 same_self (v.Truth false) = refl

@@ -90,7 +90,7 @@ mutual
             fits_in (rank index v * size N item) (offset N item path at) (size N U) (size N item) (size N item * value_count N index) low (row_fits_turned (rank index v) (size N item) (size N item) (value_count N index) (rank_below N index v was) (all_of (size N item))),
           )
 
-  row_lead_on : {n : _} (N : ℕ) (row : Row_of-Field n) (U : AnyType) (name : Name) (path way : Path) (at by : List Value) → row_leads N row name path at ≡ Some U → RowLeadsOn N row U name path way at by
+  pub row_lead_on : {n : _} (N : ℕ) (row : Row_of-Field n) (U : AnyType) (name : Name) (path way : Path) (at by : List Value) → row_leads N row name path at ≡ Some U → RowLeadsOn N row U name path way at by
   row_lead_on N end_of-Field U name path way at by e = absurd (none_some e)
   row_lead_on N (more_of-Field field type rest) U name path way at by e = go (bytes_eq field name) e (λ e. lead_on N type U path way at by e) (λ e. row_lead_on N rest U name path way at by e)
     where

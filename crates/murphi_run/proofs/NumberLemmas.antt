@@ -99,7 +99,7 @@ mutual
       let (fits, more) = and_parts (is_value N index v) (has_cell N item path at) e in
       mul-add-lt (rank index v) (size N item) (offset N item path at) (value_count N index) (rank_below N index v fits) (cell_within N item path at more)
 
-  row_within : {n : _} (N : ℕ) (row : Row_of-Field n) (name : Name) (path : Path) (at : List Value) → row_has N row name path at ≡ true → UnderField N row name path at
+  pub row_within : {n : _} (N : ℕ) (row : Row_of-Field n) (name : Name) (path : Path) (at : List Value) → row_has N row name path at ≡ true → UnderField N row name path at
   row_within N end_of-Field name path at e = cc
   row_within N (more_of-Field field type rest) name path at e = go (bytes_eq field name) e (λ e. cell_within N type path at e) (λ e. row_within N rest name path at e)
     where

@@ -2,6 +2,7 @@
 pub mod Layout
 pub mod Holding
 pub mod Laws
+pub mod Stretches
 pub mod Blocks
 pub mod Lists
 pub mod Operators

@@ -2,6 +2,7 @@
 //! nothing.
 
 ghost use Rattle.murphi_run.specs.Blocks.{BlocksAreApart, BlanksAreHeld, EntriesAreHeld};
+ghost use Rattle.murphi_run.specs.Stretches.{StretchesAreThose, StretchesAreWritten};
 ghost use Rattle.murphi_run.specs.Laws.{RanksAreWithin, RanksAreApart, CellsAreWithin, CellsAreApart, PlacesLeadOn, SameTypesStandAlike, ReadsAreThose, WritesAreThose};
 
 /// Values of a type and cells of a variable are numbered below how many there are, and each number is that
@@ -27,6 +28,13 @@ pub fn places_have_the_numbers_of_their_types()
 pub fn reading_and_writing_go_by_numbers()
     ensures reads { ReadsAreThose }
     ensures writes { WritesAreThose }
+{}
+
+/// What stands under a place is one stretch of the list: it holds the cells there, and with another stretch
+/// in its place, that holds what is to be written, the list holds the cells in which that is written.
+pub fn places_are_stretches()
+    ensures holds { StretchesAreThose }
+    ensures written { StretchesAreWritten }
 {}
 
 /// In the body of a rule or of a start state the blocks of its variables have no cell in common, a list of

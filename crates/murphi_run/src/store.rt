@@ -1,7 +1,9 @@
 //! The list of the values of the cells in scope.
 
-ghost use Rattle.std.specs.Prelude.{◌≡◌, ◌<◌, ◌≤◌, ◌-◌, ◌++◌, [], length, replicate, take, slice_get, slice_set, Some, IfOk, OnOk, OnErr};
+ghost use Rattle.std.specs.Prelude.{◌≡◌, ◌+◌, ◌<◌, ◌≤◌, ◌-◌, ◌++◌, [], length, replicate, take, drop, slice_get, slice_set, Some, IfOk, OnOk, OnErr};
+ghost use Rattle.term_core.specs.declared.value.Value.{Value};
 ghost use Rattle.term_core.specs.declared.value.Value.TheVariants.{Undefined};
+ghost use Rattle.murphi_run.specs.Stretches.{with_stretch};
 
 use murphi_ast::text::Memory;
 use sqlite_items::Items;
@@ -54,6 +56,49 @@ fn cut(values: &mut Items<Value>, count: usize)
     for _taken in 0..more {
         drop_last(values);
     }
+}
+
+/// Gives the cells from a number on the values of a list.
+#[tactic(auto, using(crate::proofs::PutLemmas::puts))]
+fn put(values: &mut Items<Value>, number: usize, new: &[Value])
+    requires { number + length new.now ≤ length values.old }
+    ensures { values.new ≡ with_stretch number new.now values.old }
+{
+    for k in 0..new.len() {
+        let value = value_at(new, k);
+        let place = place_behind(values.as_slice(), number, k);
+        values.set(place, value);
+    }
+}
+
+/// So many places behind a number, which is within the list.
+fn place_behind(values: &[Value], number: usize, more: usize) -> usize
+    requires { number + more < length values.now }
+    ensures { result ≡ number + more }
+{
+    number + more
+}
+
+fn value_at(values: &[Value], place: usize) -> Value
+    requires { place < length values.now }
+    ensures { slice_get values.now place ≡ Some result }
+{
+    values[place]
+}
+
+/// So many of a list's values, from a number on.
+fn part(
+    alloc: Global,
+    values: &[Value],
+    number: usize,
+    count: usize,
+) -> Result<Items<Value>, Memory>
+    requires { number + count ≤ length values.now }
+    ensures { IfOk result (λ out. out ≡ take count (drop number values.now)) }
+{
+    let stretch = &values[number..number + count];
+    let out = Items::from_slice(alloc, stretch)?;
+    Ok(out)
 }
 
 impl Store {
@@ -112,5 +157,22 @@ impl Store {
         ensures { self.new ≡ take count self.old }
     {
         cut(&mut self.values, count);
+    }
+
+    /// The values of a stretch: of so many cells from a number on.
+    pub fn stretch(&self, alloc: Global, number: usize, count: usize) -> Result<Store, Memory>
+        requires { number + count ≤ length self.now }
+        ensures { IfOk result (λ s. s ≡ take count (drop number self.now)) }
+    {
+        let values = part(alloc, self.values.as_slice(), number, count)?;
+        Ok(Store { values })
+    }
+
+    /// Gives the cells from a number on the values of another list. It takes no memory.
+    pub fn put(&mut self, number: usize, new: &Store)
+        requires { number + length new.now ≤ length self.old }
+        ensures { self.new ≡ with_stretch number new.now self.old }
+    {
+        put(&mut self.values, number, new.values.as_slice());
     }
 }
