@@ -20,3 +20,4 @@ pub mod Texts
 pub mod LemmaTexts
 pub mod SpelledEquations
 pub mod SpelledForms
+pub mod TokenLemmas

@@ -1,8 +1,9 @@
 -- What typing gives is well typed.
-use Rattle.std.specs.Prelude.{◌≡◌, Bool, true, nat_le, List, [], Option, None, IsTrue}
+use Rattle.std.specs.Prelude.{◌≡◌, ℕ, Bool, true, nat_le, List, [], Option, None, IsTrue}
 use Rattle.std.specs.List.{list_all}
 use Rattle.grammar_core.specs.Spelling.{Room, Spells}
 use Rattle.murphi_ast.specs.Bytes.{greatest_number}
+use Rattle.murphi_ast.specs.Spelling.{Spells as SpelledBy}
 use Rattle.murphi_ast.specs.declared.token.Token.{Token}
 use Rattle.murphi_ast.specs.declared.expr.Expr.{Expr}
 use Rattle.murphi_ast.specs.declared.rule.Protocol.{Protocol}
@@ -47,3 +48,8 @@ abbrev pub ExpressionsAreSpelled : Type 0
 ExpressionsAreSpelled =
     (room : Room) (tokens : List Token) (e : Expr) → IsTrue (list_all is_small tokens)
     → Spells murphi room (form n.Expr) tokens e → IsTrue (is_spelled e)
+
+-- the numbers of tokens are such, whatever bytes spell them
+abbrev pub TokensAreSmall : Type 0
+TokensAreSmall =
+    (bytes : List ℕ) (tokens : List Token) → SpelledBy bytes tokens → IsTrue (list_all is_small tokens)

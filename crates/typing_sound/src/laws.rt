@@ -1,6 +1,6 @@
 //! Laws, each on a function that does nothing.
 
-ghost use Rattle.typing_sound.specs.Sound.{ExpressionsAreSpelled, LemmasAreWellTyped, MutexIsSpelled, TextsAreWellTyped, TreesAreSpelled};
+ghost use Rattle.typing_sound.specs.Sound.{ExpressionsAreSpelled, LemmasAreWellTyped, MutexIsSpelled, TextsAreWellTyped, TokensAreSmall, TreesAreSpelled};
 
 /// A text that typing does not refuse is typed as a well-typed protocol, for whatever name is given for the
 /// node type. Of the tree nothing is asked but what every tree keeps that the tokens of a text spell.
@@ -20,8 +20,10 @@ pub fn worked_case()
 {}
 
 /// What is asked of a tree is so of every protocol and every expression that tokens spell whose numbers are
-/// those that a text may have, however many nestings may be open.
+/// those that a text may have, however many nestings may be open; and the tokens that bytes spell have such
+/// numbers.
 pub fn trees_are_spelled()
+    ensures tokens { TokensAreSmall }
     ensures protocols { TreesAreSpelled }
     ensures expressions { ExpressionsAreSpelled }
 {}
