@@ -38,7 +38,7 @@ impl Lead {
     }
 
     /// Where indices lead after one more, of this value: one that is no node leads to none.
-    fn led_after(&self, alloc: Global, value: AbsValue) -> Result<Lead, Memory>
+    pub fn led_after(&self, alloc: Global, value: AbsValue) -> Result<Lead, Memory>
         ensures { IfOk result (λ out. out ≡ led_after self.now value) }
     {
         match value {

@@ -12,7 +12,7 @@ pub mod making;
 pub mod node;
 pub mod patterns;
 pub mod place;
-mod places;
+pub mod places;
 pub mod read;
 pub mod scene;
 pub mod set;

@@ -19,7 +19,7 @@ use term_core::machine::CellFamily;
 use term_core::text::Memory;
 
 /// The nodes of a window, kept ones first.
-pub(crate) fn window_nodes(alloc: Global, kept: u8, fired: u8) -> Result<Vec<AbsNode>, Memory>
+pub fn window_nodes(alloc: Global, kept: u8, fired: u8) -> Result<Vec<AbsNode>, Memory>
     ensures { IfOk result (λ out. out.items ≡ map Kept (nodes kept) ++ map Fired (nodes fired)) }
 {
     let mut out = Vec::new(alloc);
@@ -33,7 +33,7 @@ pub(crate) fn window_nodes(alloc: Global, kept: u8, fired: u8) -> Result<Vec<Abs
 }
 
 /// Nodes, and others after them.
-pub(crate) fn joined(
+pub fn joined(
     alloc: Global,
     front: &[AbsNode],
     back: &[AbsNode],
@@ -46,7 +46,7 @@ pub(crate) fn joined(
 }
 
 /// The lists of so many of these nodes, the first slowest.
-pub(crate) fn lists_of(
+pub fn lists_of(
     alloc: Global,
     nodes: &[AbsNode],
     count: u32,
@@ -103,7 +103,7 @@ fn headed(alloc: Global, node: AbsNode, rest: &[AbsNode]) -> Result<Items<AbsNod
 }
 
 /// The cells of these families at these nodes.
-pub(crate) fn places_in(
+pub fn places_in(
     alloc: Global,
     nodes: &[AbsNode],
     families: &[CellFamily],

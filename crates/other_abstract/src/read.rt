@@ -59,7 +59,7 @@ fn are_numbered(scene: &Scene, nodes: &[AbsNode]) -> bool
 }
 
 /// Whether there is a cell of this family at these nodes.
-fn is_cell(scene: &Scene, family: usize, nodes: &[AbsNode]) -> bool
+pub fn is_cell(scene: &Scene, family: usize, nodes: &[AbsNode]) -> bool
     ensures { result ≡ is_cell (size (window_in scene.now)) scene.now.families.now family (map (node_number
         scene.now.kept) nodes.now) }
 {
@@ -75,7 +75,7 @@ fn is_cell(scene: &Scene, family: usize, nodes: &[AbsNode]) -> bool
 }
 
 /// How many cells the families before this one have, if they are fewer than 2^64.
-fn first_place(scene: &Scene, family: usize) -> Option<usize>
+pub fn first_place(scene: &Scene, family: usize) -> Option<usize>
     ensures { let p = first_place (size (window_in scene.now)) scene.now.families.now family in SomeIff result
         (p < 2 ^ 64) p }
 {
@@ -107,7 +107,7 @@ fn next_before(scene: &Scene, before: usize, node: AbsNode) -> Option<usize>
 }
 
 /// How many choices of as many nodes stand before this one, if they are fewer than 2^64.
-fn choice_place(scene: &Scene, nodes: &[AbsNode]) -> Option<usize>
+pub fn choice_place(scene: &Scene, nodes: &[AbsNode]) -> Option<usize>
     requires { 1 ≤ size (window_in scene.now) }
     ensures { let p = choices_before (size (window_in scene.now)) scene.now.kept 0 nodes.now in SomeIff result
         (p < 2 ^ 64) p }
@@ -143,7 +143,7 @@ fn value_there(cells: &[AbsValue], first: Option<usize>, choice: Option<usize>) 
 }
 
 /// The value of the cell of a family at these nodes; undefined where there is no such cell.
-pub(crate) fn cell_value(scene: &Scene, family: usize, nodes: &[AbsNode]) -> AbsValue
+pub fn cell_value(scene: &Scene, family: usize, nodes: &[AbsNode]) -> AbsValue
     requires { 1 ≤ size (window_in scene.now) }
     ensures { result ≡ value_at (window_in scene.now) scene.now.cells.now family nodes.now }
 {
