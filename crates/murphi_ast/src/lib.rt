@@ -3,6 +3,7 @@
 
 pub mod decl;
 pub mod expr;
+pub mod job;
 pub mod laws;
 pub mod rule;
 pub mod stmt;
