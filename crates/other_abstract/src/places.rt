@@ -33,11 +33,7 @@ pub fn window_nodes(alloc: Global, kept: u8, fired: u8) -> Result<Vec<AbsNode>, 
 }
 
 /// Nodes, and others after them.
-pub fn joined(
-    alloc: Global,
-    front: &[AbsNode],
-    back: &[AbsNode],
-) -> Result<Vec<AbsNode>, Memory>
+pub fn joined(alloc: Global, front: &[AbsNode], back: &[AbsNode]) -> Result<Vec<AbsNode>, Memory>
     ensures { IfOk result (λ out. out.items ≡ front.now ++ back.now) }
 {
     let mut out = Vec::from_slice(alloc, front)?;
@@ -46,11 +42,7 @@ pub fn joined(
 }
 
 /// The lists of so many of these nodes, the first slowest.
-pub fn lists_of(
-    alloc: Global,
-    nodes: &[AbsNode],
-    count: u32,
-) -> Result<Vec<Items<AbsNode>>, Memory>
+pub fn lists_of(alloc: Global, nodes: &[AbsNode], count: u32) -> Result<Vec<Items<AbsNode>>, Memory>
     ensures { IfOk result (λ out. out.items ≡ lists_of nodes.now count) }
 {
     let mut out = Vec::new(alloc);

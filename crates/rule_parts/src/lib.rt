@@ -6,6 +6,7 @@ pub mod entry;
 pub mod family;
 pub mod first;
 pub mod fit;
+pub mod laws;
 pub mod layer;
 pub mod leaf;
 pub mod now;
