@@ -189,6 +189,8 @@ rules_avoid n.Product h = refl
 rules_avoid n.Unary h = refl
 rules_avoid n.Primary h = refl
 rules_avoid n.Place h = refl
+rules_avoid n.LemmaItem h = refl
+rules_avoid n.FlowItem h = refl
 
 no_end_one : (x : Token) (s : Symbol) (us : List Token) → symbol_of x ≡ s → not (is_end s) ≡ true → has_no_end us ≡ true → has_no_end (x ∷ us) ≡ true
 no_end_one x s us e h p = go (is_end (symbol_of x)) (subst (λ z. not (is_end z) ≡ true) (sym e) h)

@@ -70,6 +70,8 @@ there n.Product = (product f.rule f.build f_cuts).there
 there n.Unary = (unary f.rule f.build f_cuts).there
 there n.Primary = (primary f.rule f.build f_cuts (named factored n.Place)).there
 there n.Place = (place f.rule f.build f_cuts).there
+there n.LemmaItem = (same factored (w.rule n.LemmaItem) (w.build n.LemmaItem)).there
+there n.FlowItem = (same factored (w.rule n.FlowItem) (w.build n.FlowItem)).there
 there (n.Cut p) = (same factored (piece p) (piece_build p)).there
 
 back : (m : Name) → Within murphi (f.rule m) (f.build m) (w.rule m) (w.build m)
@@ -99,6 +101,8 @@ back n.Product = (product w.rule w.build w_cuts).back
 back n.Unary = (unary w.rule w.build w_cuts).back
 back n.Primary = (primary w.rule w.build w_cuts w_place).back
 back n.Place = (place w.rule w.build w_cuts).back
+back n.LemmaItem = (same murphi (w.rule n.LemmaItem) (w.build n.LemmaItem)).back
+back n.FlowItem = (same murphi (w.rule n.FlowItem) (w.build n.FlowItem)).back
 back (n.Cut p) = (same murphi (piece p) (piece_build p)).back
 
 pub spelled_there : {r : Room} {m : Name} {us : List Token} {v : Value m} → Spells murphi r (Call m) us v → Spells factored r (Call m) us v

@@ -2,7 +2,7 @@
 -- a law the same tokens spell its forms, with the same trees, and begin them, as those of the grammar as it is
 -- written. It differs from that where two alternatives begin alike (`type`, `item`, `bind`, `stmt`, `primary`),
 -- in `fields`, and in that repetitions are named.
-use Rattle.std.specs.Prelude.{true, false, List, [], ◌∷◌, ◌++◌, None, Some}
+use Rattle.std.specs.Prelude.{true, false, List, [], ◌∷◌, ◌++◌, None, Some, map}
 use Rattle.std.proofs.Common.{inl, inr}
 use Rattle.grammar_core.specs.Forms.{Grammar, TreeOf}
 use Rattle.murphi_ast.specs.declared.token.Token.{Token}
@@ -17,8 +17,8 @@ use Rattle.murphi_grammar.specs.declared.symbol.Symbol.TheVariants as t
 use Rattle.murphi_grammar.specs.Symbols.{symbol_of}
 use Rattle.murphi_grammar.specs.Names.{Name}
 use Rattle.murphi_grammar.specs.Names as n
-use Rattle.murphi_grammar.specs.Parts.{Part, ◌▸◌, ◌∥◌, one, form, many, optional, nest, ending, in_parentheses}
-use Rattle.murphi_grammar.specs.Values.{Value, named, listed, is_there, chained}
+use Rattle.murphi_grammar.specs.Parts.{Part, ◌▸◌, ◌∥◌, one, form, many, optional, nest, ending, in_parentheses, event_form}
+use Rattle.murphi_grammar.specs.Values.{Value, named, event, seconds, listed, is_there, chained}
 use Rattle.murphi_grammar.specs.Pieces.{cut, piece, piece_build, name_primary}
 
 -- the right side of each named form
@@ -75,6 +75,9 @@ rule n.Product = form n.Unary ▸ cut n.ProductLinks
 rule n.Unary = nest t.Minus (form n.Unary) ∥ form n.Primary
 rule n.Primary = cut n.NamePrimary ∥ cut n.OtherPrimary
 rule n.Place = one t.Name ▸ cut n.Selectors
+rule n.LemmaItem = one t.Name ▸ one t.Colon ▸ form n.Expr ▸ one t.Semicolon
+rule n.FlowItem =
+    one t.Name ▸ one t.Colon ▸ event_form ▸ one t.Comma ▸ event_form ▸ many (one t.Comma ▸ event_form) ▸ one t.Semicolon
 rule (n.Cut p) = piece p
 
 -- what each named form builds of its parts
@@ -144,6 +147,9 @@ build n.Unary (inr body) = body
 build n.Primary (inl body) = body
 build n.Primary (inr body) = body
 build n.Place (x, sels) = record { root = named x; selectors = sels }
+build n.LemmaItem (x, (_, (body, _))) = record { name = named x; body = body }
+build n.FlowItem (x, (_, (first, (_, (second, (more, _)))))) =
+    record { name = named x; events = event first ∷ event second ∷ map event (seconds more) }
 build (n.Cut p) parts = piece_build p parts
 
 -- the grammar in its left-factored form

@@ -19,8 +19,8 @@ use Rattle.murphi_grammar.specs.declared.symbol.Symbol.TheVariants as t
 use Rattle.murphi_grammar.specs.Symbols.{symbol_of}
 use Rattle.murphi_grammar.specs.Names.{Name}
 use Rattle.murphi_grammar.specs.Names as n
-use Rattle.murphi_grammar.specs.Parts.{Part, ◌▸◌, ◌∥◌, one, form, many, optional, nest, ending, in_parentheses}
-use Rattle.murphi_grammar.specs.Values.{Value, named, seconds, present, and_present, listed, is_there, title, joined, declared, constant, type_name, variables, field, arm, case_of, otherwise, arguments, formals, selector_of, compare_of, link, sum_link, product_link, chained}
+use Rattle.murphi_grammar.specs.Parts.{Part, ◌▸◌, ◌∥◌, one, form, many, optional, nest, ending, in_parentheses, event_form}
+use Rattle.murphi_grammar.specs.Values.{Value, named, event, seconds, present, and_present, listed, is_there, title, joined, declared, constant, type_name, variables, field, arm, case_of, otherwise, arguments, formals, selector_of, compare_of, link, sum_link, product_link, chained}
 use Rattle.murphi_grammar.specs.Pieces.{piece, piece_build}
 
 -- the right side of each named form
@@ -137,6 +137,11 @@ rule n.Primary =
     nest t.Exists (form n.Bind ▸ one t.Do ▸ form n.Expr ▸ ending t.EndExists)
 -- name { . name | [ expr ] }
 rule n.Place = one t.Name ▸ many (one t.Dot ▸ one t.Name ∥ nest t.OpenBracket (form n.Expr ▸ one t.CloseBracket))
+-- name : expr ;
+rule n.LemmaItem = one t.Name ▸ one t.Colon ▸ form n.Expr ▸ one t.Semicolon
+-- name : event , event { , event } ;
+rule n.FlowItem =
+    one t.Name ▸ one t.Colon ▸ event_form ▸ one t.Comma ▸ event_form ▸ many (one t.Comma ▸ event_form) ▸ one t.Semicolon
 -- a piece of a form, which none of the forms above calls
 rule (n.Cut p) = piece p
 
@@ -213,6 +218,9 @@ build n.Primary (inr (inr (inr (inr (inr (inr (inl (x, (_, (place, _)))))))))) =
 build n.Primary (inr (inr (inr (inr (inr (inr (inr (inl (x, (bind, (_, (body, _)))))))))))) = e.Quantified true bind body x.at
 build n.Primary (inr (inr (inr (inr (inr (inr (inr (inr (x, (bind, (_, (body, _)))))))))))) = e.Quantified false bind body x.at
 build n.Place (x, sels) = record { root = named x; selectors = map selector_of sels }
+build n.LemmaItem (x, (_, (body, _))) = record { name = named x; body = body }
+build n.FlowItem (x, (_, (first, (_, (second, (more, _)))))) =
+    record { name = named x; events = event first ∷ event second ∷ map event (seconds more) }
 build (n.Cut p) parts = piece_build p parts
 
 -- the grammar of protocols

@@ -1,4 +1,4 @@
--- The names of the forms of the grammar of protocols.
+-- The names of the forms of the grammar of protocols, and of files of lemmas and of flows.
 
 -- the pieces into which the reader cuts forms: the form as it is written calls none of them
 pub data Piece : Type 0 where
@@ -97,5 +97,8 @@ pub data Name : Type 0 where
   Unary : Name
   Primary : Name
   Place : Name
+  -- an item of a file of lemmas or of flows, behind its first word
+  LemmaItem : Name
+  FlowItem : Name
   -- a piece, which no other form of the grammar as it is written calls
   Cut : Piece → Name

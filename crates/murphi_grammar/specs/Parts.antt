@@ -42,3 +42,7 @@ ending word = one t.End ∥ one word
 
 abbrev pub in_parentheses : Part → Part
 in_parentheses a = nest t.Open (a ▸ one t.Close)
+
+-- string . name
+abbrev pub event_form : Part
+event_form = one t.Quoted ▸ one t.Dot ▸ one t.Name

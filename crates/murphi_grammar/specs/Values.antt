@@ -29,6 +29,9 @@ use Rattle.murphi_ast.specs.declared.decl.Formal.{Formal}
 use Rattle.murphi_ast.specs.declared.rule.RuleDecl as r
 use Rattle.murphi_ast.specs.declared.rule.RuleDecl.{RuleDecl}
 use Rattle.murphi_ast.specs.declared.rule.Protocol.{Protocol}
+use Rattle.murphi_ast.specs.declared.job.Lemma.{Lemma}
+use Rattle.murphi_ast.specs.declared.job.Event.{Event}
+use Rattle.murphi_ast.specs.declared.job.Flow.{Flow}
 use Rattle.murphi_grammar.specs.declared.symbol.Symbol.{Symbol}
 use Rattle.murphi_grammar.specs.declared.symbol.Symbol.TheVariants as t
 use Rattle.murphi_grammar.specs.Names.{Name, Piece}
@@ -110,11 +113,17 @@ Value n.Product = Expr
 Value n.Unary = Expr
 Value n.Primary = Expr
 Value n.Place = Designator
+Value n.LemmaItem = Lemma
+Value n.FlowItem = Flow
 Value (n.Cut p) = PieceValue p
 
 -- the name that a token writes
 abbrev pub named : Token → Named
 named x = record { name = x.text; at = x.at }
+
+-- `string . name`
+abbrev pub event : Token × (Token × Token) → Event
+event (rule, (_, param)) = record { rule = rule.text; param = param.text; at = rule.at }
 
 -- the second of each pair
 abbrev pub seconds : {A B : Type 0} → List (A × B) → List B

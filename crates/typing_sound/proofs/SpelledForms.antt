@@ -60,6 +60,8 @@ ValueSo n.Product x = is_spelled x ≡ true
 ValueSo n.Unary x = is_spelled x ≡ true
 ValueSo n.Primary x = is_spelled x ≡ true
 ValueSo n.Place p = place_spelled p ≡ true
+ValueSo n.LemmaItem l = is_spelled l.body ≡ true
+ValueSo n.FlowItem f = Unit {0}
 ValueSo (n.Cut p) v = Unit {0}
 
 -- and of what any form reads to
@@ -312,6 +314,8 @@ built n.Primary (inr (inr (inr (inr (inr (inr (inl (x, (o, (place, c)))))))))) u
 built n.Primary (inr (inr (inr (inr (inr (inr (inr (inl (x, (bind, (d, (body, e)))))))))))) u = so-Quantified true bind body x.at ∙ and_from _ _ u.1.0 u.1.1.1.0
 built n.Primary (inr (inr (inr (inr (inr (inr (inr (inr (x, (bind, (d, (body, e)))))))))))) u = so-Quantified false bind body x.at ∙ and_from _ _ u.1.0 u.1.1.1.0
 built n.Place (x, sels) u = map-all selector_spelled (TreeSo selector-part) selector_of selector-so sels u.1
+built n.LemmaItem (x, (c, (body, s))) u = u.1.1.0
+built n.FlowItem (x, (c, (first, (d, (second, (more, s)))))) u = tt
 built (n.Cut p) parts u = tt
 
 -- What tokens spell
