@@ -1,5 +1,5 @@
 use Rattle.rule_parts.proofs.NowEquations.{firsts_are}
 use Rattle.rule_parts.proofs.laws.first_writes_are_of_the_change.Goals as goal
 
-pub returns-clause-marks : goal.returns-clause-marks
-returns-clause-marks c = firsts_are
+pub returns : goal.returns
+returns c = firsts_are
