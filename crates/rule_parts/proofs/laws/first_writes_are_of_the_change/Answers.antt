@@ -2,4 +2,4 @@ use Rattle.rule_parts.proofs.NowEquations.{firsts_are}
 use Rattle.rule_parts.proofs.laws.first_writes_are_of_the_change.Goals as goal
 
 pub returns : goal.returns
-returns c = firsts_are
+returns c = record { marks = firsts_are }
