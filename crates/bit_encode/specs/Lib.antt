@@ -2,6 +2,8 @@
 pub mod Codes
 pub mod MaySets
 pub mod Coding
+pub mod Leads
 pub mod Forms
+pub mod Terms
 pub mod Laws
 pub mod Worked
