@@ -22,7 +22,7 @@ use Rattle.other_abstract.specs.Tests.{window_nodes, passes, same_passes, either
 use Rattle.bit_encode.specs.declared.set.Possible.{Possible}
 use Rattle.bit_encode.specs.declared.combine.PairOp.TheVariants.{Same, Less, Arith}
 use Rattle.bit_encode.specs.MaySets.{held}
-use Rattle.bit_encode.specs.Coding.{Shows, IsMay}
+use Rattle.bit_encode.specs.Coding.{IsMay}
 use Rattle.bit_encode.specs.declared.leads.PossibleLead.{PossibleLead}
 use Rattle.bit_encode.specs.Leads.{held_lead, read_held, IsLed}
 use Rattle.bit_encode.proofs.PlacingLemmas.{read_is_seen}

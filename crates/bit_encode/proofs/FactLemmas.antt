@@ -1,5 +1,5 @@
 -- Edges that tell facts of a coded state, joined one after the other.
-use Rattle.std.proofs.Common.{◌≡◌, ℕ, ◌+◌, ◌<◌, ◌≤◌, Bool, true, false, ◌&&◌, ◌||◌, List, [], ◌∷◌, ◌++◌, length, get_or, take, refl, sym, ap, ◌∙◌, subst}
+use Rattle.std.proofs.Common.{◌≡◌, ℕ, ◌+◌, ◌<◌, ◌≤◌, Bool, true, false, ◌&&◌, ◌||◌, List, [], ◌∷◌, ◌++◌, length, get_or, take, sym, ap, ◌∙◌, subst}
 use Rattle.std.specs.List.{list_all, list_any}
 use Rattle.std.proofs.lemmas.List.{take_more, take_all}
 use Rattle.circuit_core.specs.declared.edge.Edge.{Edge}
@@ -12,7 +12,7 @@ use Rattle.other_abstract.specs.May.{AbsCells}
 use Rattle.other_abstract.specs.Tests.{passes, may}
 use Rattle.bit_encode.specs.declared.set.Possible.{Possible}
 use Rattle.bit_encode.specs.MaySets.{Agrees, held}
-use Rattle.bit_encode.specs.Coding.{HasCells, IsMay}
+use Rattle.bit_encode.specs.Coding.{IsMay}
 use Rattle.bit_encode.specs.Terms.{IsMayIn, TellsIn}
 use Rattle.bit_encode.proofs.Growing.{keeps_all, keeps_self, agrees_before}
 use Rattle.bit_encode.proofs.Gaining.{any_push}

@@ -1,9 +1,9 @@
 -- Steps of loops that add leads with edges, and leads joined one after the other.
-use Rattle.std.proofs.Common.{◌≡◌, ℕ, zero, suc, ◌+◌, ◌<◌, ◌≤◌, ◌&&◌, ◌||◌, Bool, true, false, List, [], ◌∷◌, ◌++◌, length, get_or, set, take, drop, refl, sym, ◌∙◌, ap, subst, append_assoc, append-nil, arith}
+use Rattle.std.proofs.Common.{◌≡◌, ℕ, zero, suc, ◌+◌, ◌<◌, ◌≤◌, ◌&&◌, ◌||◌, Bool, true, false, List, [], ◌∷◌, ◌++◌, length, get_or, set, take, refl, sym, ◌∙◌, ap, subst, arith}
 use Rattle.std.specs.List.{list_any}
 use Rattle.std.proofs.lemmas.List.{take_more, take_all}
 use Rattle.circuit_core.specs.declared.edge.Edge.{Edge}
-use Rattle.circuit_core.specs.Network.{Network, IsEdge}
+use Rattle.circuit_core.specs.Network.{Network}
 use Rattle.circuit_core.specs.Growth.{KeepsEdges}
 use Rattle.other_abstract.specs.declared.lead.Lead.{Lead}
 use Rattle.bit_encode.specs.declared.leads.PossibleLead.{PossibleLead}

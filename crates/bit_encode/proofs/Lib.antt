@@ -11,3 +11,5 @@ pub mod ReadLemmas
 pub mod TermLemmas
 pub mod WindowLemmas
 pub mod FactLemmas
+pub mod StepLemmas
+pub mod FireLemmas

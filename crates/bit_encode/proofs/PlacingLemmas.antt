@@ -14,7 +14,6 @@ use Rattle.other_abstract.specs.May.{AbsCells, value_at}
 use Rattle.other_abstract.specs.Tests.{read_passes}
 use Rattle.other_abstract.specs.Lists.{choices_before}
 use Rattle.bit_encode.specs.declared.set.Possible.{Possible}
-use Rattle.bit_encode.specs.MaySets.{held}
 use Rattle.bit_encode.specs.Coding.{Shows, IsExactly}
 use Rattle.bit_encode.specs.Leads.{placed_value, placed_set, numbers_of, set_at, set_passes, read_held}
 

@@ -1,5 +1,5 @@
 -- What stays as reads are put together.
-use Rattle.std.proofs.Common.{◌≡◌, ℕ, ◌+◌, ◌<◌, ◌≤◌, ◌&&◌, ◌||◌, Bool, List, length, get_or, take, None, Some, refl, sym, ◌∙◌, ap}
+use Rattle.std.proofs.Common.{◌≡◌, ℕ, ◌+◌, ◌<◌, ◌||◌, Bool, List, length, get_or, take, sym, ◌∙◌, ap}
 use Rattle.std.specs.Prelude.{slice_get}
 use Rattle.circuit_core.specs.declared.edge.Edge.{Edge}
 use Rattle.circuit_core.specs.Network.{Network}
@@ -9,7 +9,7 @@ use Rattle.bit_encode.specs.declared.set.Possible.{Possible}
 use Rattle.bit_encode.specs.declared.leads.PossibleLead.{PossibleLead}
 use Rattle.bit_encode.specs.MaySets.{Agrees, HasEdges, held}
 use Rattle.bit_encode.specs.Coding.{HasCells}
-use Rattle.bit_encode.specs.Leads.{HasLeadEdges, set_passes, placed_set}
+use Rattle.bit_encode.specs.Leads.{HasLeadEdges, set_passes}
 use Rattle.bit_encode.proofs.Gaining.{Rule, Gains, gains_more}
 use Rattle.bit_encode.proofs.PlacingLemmas.{found, past_end}
 

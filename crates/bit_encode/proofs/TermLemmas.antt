@@ -22,12 +22,10 @@ use Rattle.other_abstract.specs.Lists.{list_lead, led_by, led_after, joined_lead
 use Rattle.bit_encode.specs.declared.set.Possible.{Possible}
 use Rattle.bit_encode.specs.declared.tally.Tally.{Tally}
 use Rattle.bit_encode.specs.declared.leads.PossibleLead.{PossibleLead}
-use Rattle.bit_encode.specs.declared.combine.PairOp.{PairOp}
 use Rattle.bit_encode.specs.declared.combine.PairOp.TheVariants.{Same, Less, Arith}
 use Rattle.bit_encode.specs.MaySets.{Agrees, held, pair_passes}
-use Rattle.bit_encode.specs.Coding.{HasCells, Shows, IsMay}
-use Rattle.bit_encode.specs.Leads.{HasLeadEdges, held_lead, read_held, IsLed}
-use Rattle.bit_encode.specs.Forms.{Tells}
+use Rattle.bit_encode.specs.Coding.{Shows, IsMay}
+use Rattle.bit_encode.specs.Leads.{held_lead, read_held, IsLed}
 use Rattle.bit_encode.specs.Terms.{IsMayIn, IsLedIn, TellsIn, IsLedSoFar}
 use Rattle.bit_encode.proofs.Growing.{keeps_all, keeps_self, agrees_before}
 use Rattle.bit_encode.proofs.Gaining.{any_push}

@@ -1,7 +1,7 @@
 -- The cells of a window by their places, and by their families.
-use Rattle.std.proofs.Common.{◌≡◌, ℕ, zero, suc, ◌+◌, ◌*◌, ◌^◌, ◌<◌, ◌≤◌, Bool, List, [], ◌∷◌, ◌++◌, length, map, get_or, take, drop, replicate, refl, sym, ◌∙◌, ap, subst, append-nil, arith}
+use Rattle.std.proofs.Common.{◌≡◌, ℕ, zero, suc, ◌+◌, ◌*◌, ◌^◌, ◌<◌, ◌≤◌, Bool, List, [], ◌∷◌, ◌++◌, length, map, get_or, take, replicate, refl, sym, ◌∙◌, ap, subst, arith}
 use Rattle.std.specs.List.{flat_map}
-use Rattle.std.proofs.lemmas.List.{take_more, take_all, drop_more}
+use Rattle.std.proofs.lemmas.List.{take_more, take_all}
 use Rattle.std.proofs.Math.Nat.{pow-zero, pow-suc}
 use Rattle.term_core.specs.declared.machine.CellFamily.{CellFamily}
 use Rattle.term_core.specs.Nodes.{nodes, nodes_from}
@@ -17,8 +17,7 @@ use Rattle.other_abstract.specs.Tests.{window_nodes, lists_of}
 use Rattle.other_abstract.specs.Places.{places, places_in}
 use Rattle.bit_encode.specs.declared.set.Possible.{Possible}
 use Rattle.bit_encode.specs.MaySets.{Agrees, HasEdges, held}
-use Rattle.bit_encode.specs.Codes.{width, picked, coded_place, bit_count, cell_values, cell_lists}
-use Rattle.bit_encode.specs.Coding.{HasCells, AreCoded}
+use Rattle.bit_encode.specs.Codes.{width, picked, coded_place, cell_values, cell_lists}
 use Rattle.bit_encode.proofs.CellLemmas.{AreMade, made_none, made_more}
 
 -- lists mapped

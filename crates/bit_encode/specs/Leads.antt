@@ -1,5 +1,5 @@
 -- Where indices may lead, as leads with edges, and what a read may be there.
-use Rattle.std.specs.Prelude.{ℕ, ◌≡◌, Bool, ◌&&◌, List, [], ◌∷◌, map, slice_get, unwrap_or, Option, None, Some, All, if◌then◌else◌}
+use Rattle.std.specs.Prelude.{ℕ, ◌≡◌, Bool, ◌&&◌, List, map, slice_get, unwrap_or, Option, None, Some, All, if◌then◌else◌}
 use Rattle.std.specs.List.{list_any}
 use Rattle.term_core.specs.declared.term.Term.{Term}
 use Rattle.term_core.specs.Cells.{is_cell, place_of}

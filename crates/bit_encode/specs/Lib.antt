@@ -5,5 +5,6 @@ pub mod Coding
 pub mod Leads
 pub mod Forms
 pub mod Terms
+pub mod Steps
 pub mod Laws
 pub mod Worked

@@ -26,7 +26,11 @@ use std::alloc::Global;
 use term_core::term::Term;
 
 /// Nodes, and others after them.
-fn joined(alloc: Global, front: &[AbsNode], back: &[AbsNode]) -> Result<Vec<AbsNode>, Memory>
+pub(crate) fn joined(
+    alloc: Global,
+    front: &[AbsNode],
+    back: &[AbsNode],
+) -> Result<Vec<AbsNode>, Memory>
     ensures { IfOk result (λ out. out.items ≡ front.now ++ back.now) }
 {
     let mut out = Vec::from_slice(alloc, front)?;

@@ -69,7 +69,7 @@ fn add_placed(
 }
 
 /// Adds what the cell of a family at these nodes may be, under an edge.
-fn add_cell(
+pub(crate) fn add_cell(
     circuit: &mut Circuit,
     out: &mut MaySet,
     scene: &CodedScene,

@@ -1,6 +1,5 @@
-use Rattle.std.proofs.Common.{true, ◌∙◌, ap, List}
+use Rattle.std.proofs.Common.{true, ◌∙◌, ap}
 use Rattle.std.specs.List.{list_all}
-use Rattle.other_abstract.specs.declared.node.AbsNode.{AbsNode}
 use Rattle.other_abstract.specs.Tests.{passes, may, lists_of}
 use Rattle.other_abstract.specs.Lists.{window_in}
 use Rattle.bit_encode.proofs.FactLemmas.{lists_told}

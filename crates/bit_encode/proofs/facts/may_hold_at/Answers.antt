@@ -1,7 +1,6 @@
-use Rattle.std.proofs.Common.{true, subst, ◌∙◌}
+use Rattle.std.proofs.Common.{true, ◌∙◌}
 use Rattle.other_abstract.specs.Tests.{passes, may}
 use Rattle.other_abstract.specs.Lists.{window_in}
-use Rattle.bit_encode.specs.Terms.{TellsIn}
 use Rattle.bit_encode.proofs.FactLemmas.{all_tell_more}
 use Rattle.bit_encode.proofs.facts.may_hold_at.Goals as goal
 

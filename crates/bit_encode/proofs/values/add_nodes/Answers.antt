@@ -1,4 +1,4 @@
-use Rattle.bit_encode.proofs.ValueLemmas.{nodes_more, nodes_last}
+use Rattle.bit_encode.proofs.ValueLemmas.{nodes_more}
 use Rattle.bit_encode.proofs.values.add_nodes.Goals as goal
 
 pub loop-node-preserved : goal.loop-node-preserved
