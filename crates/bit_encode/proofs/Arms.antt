@@ -15,15 +15,20 @@ use Rattle.other_abstract.specs.declared.node.AbsNode.TheVariants.{Other}
 use Rattle.other_abstract.specs.declared.value.AbsValue.{AbsValue}
 use Rattle.other_abstract.specs.declared.value.AbsValue.TheVariants.{Truth, Number}
 use Rattle.other_abstract.specs.Windows.{Window, truth, number, constant}
-use Rattle.other_abstract.specs.May.{AbsCells, bound}
-use Rattle.other_abstract.specs.Tests.{window_nodes, passes, same_passes, either_way, may, may_each, may_some}
+use Rattle.other_abstract.specs.declared.lead.Lead.{Lead}
+use Rattle.other_abstract.specs.May.{AbsCells, bound, led_to}
+use Rattle.other_abstract.specs.Lists.{list_lead}
+use Rattle.other_abstract.specs.Tests.{window_nodes, passes, same_passes, either_way, read_passes, may, may_lead, may_each, may_some}
 use Rattle.bit_encode.specs.declared.set.Possible.{Possible}
 use Rattle.bit_encode.specs.declared.combine.PairOp.TheVariants.{Same, Less, Arith}
 use Rattle.bit_encode.specs.MaySets.{held}
 use Rattle.bit_encode.specs.Coding.{IsMay}
+use Rattle.bit_encode.specs.declared.leads.PossibleLead.{PossibleLead}
+use Rattle.bit_encode.specs.Leads.{held_lead, read_held, IsLed}
+use Rattle.bit_encode.proofs.PlacingLemmas.{read_is_seen}
 use Rattle.bit_encode.specs.Forms.{Tells, Pairs, IsVerdict, FormsAreSaid}
 
-fun_ext : {A B : Type 0} {f g : A → B} → ((x : A) → f x ≡ g x) → f ≡ g
+pub fun_ext : {A B : Type 0} {f g : A → B} → ((x : A) → f x ≡ g x) → f ≡ g
 fun_ext h = λ i x. h x i
 
 held_same : (val : Edge → Bool) (p q : AbsValue → Bool) (s : List Possible) → ((v : AbsValue) → p v ≡ q v) → held val p s ≡ held val q s
@@ -45,6 +50,15 @@ module _ (W : Window) (w : AbsCells) (env : List AbsNode) where
   unfolding may
   row_some end_of-Term b = refl
   row_some (more_of-Term x rest) b = ap (λ c. may W w env x (passes b) || c) (row_some rest b)
+
+  row_lead : {n : _} (row : Row_of-Term n) (q : Lead → Bool) → may_lead W w env row q ≡ list_lead W w env (items-the_row-Term n row) q
+  unfolding may
+  row_lead end_of-Term q = refl
+  row_lead (more_of-Term x rest) q = ap (may W w env x) (fun_ext (λ v. row_lead rest (λ r. q (led_to v r))))
+
+  may-Read : (f : ℕ) (ts : List Term) (p : AbsValue → Bool) → may W w env (t.Read f ts) p ≡ list_lead W w env ts (read_passes W w f p)
+  unfolding may
+  may-Read f ts p = row_lead (hidden-the_row-Term-0 ts) (read_passes W w f p) ∙ ap (λ xs. list_lead W w env xs (read_passes W w f p)) (items_hidden-the_row-Term-0 ts)
 
   may-Not : (a : Term) (p : AbsValue → Bool) → may W w env (t.Not a) p ≡ may W w env a (λ x. p (Truth (not (truth x))))
   unfolding may shape-the_row-Term-1 hidden-the_row-Term-1 hidden
@@ -84,7 +98,7 @@ module _ (W : Window) (w : AbsCells) (env : List AbsNode) where
   unfolding may shape-the_row-Term-1 hidden-the_row-Term-1 hidden
   may-Quantified all a p = refl
 
-  choose : (a b d : Term) (h f x y : Bool) (p : AbsValue → Bool) → h ≡ may W w env a (passes true) → f ≡ may W w env a (passes false) → x ≡ may W w env b p → y ≡ may W w env d p
+  pub choose : (a b d : Term) (h f x y : Bool) (p : AbsValue → Bool) → h ≡ may W w env a (passes true) → f ≡ may W w env a (passes false) → x ≡ may W w env b p → y ≡ may W w env d p
       → ((x && h) || (y && f)) ≡ may W w env (t.If a b d) p
   choose a b d h f x y p eh ef ex ey =
       ap (λ z. z || (y && f)) (and_swap x h) ∙ ap (λ z. (h && x) || z) (and_swap y f)
@@ -102,6 +116,12 @@ module _ (val : Edge → Bool) (cells : List (List Possible)) (W : Window) (env 
   is_variable : (k : ℕ) (s : List Possible) → ((p : AbsValue → Bool) → held val p s ≡ p (bound env k)) → IsMay val cells W env (t.Var k) s
   unfolding IsMay may
   is_variable k s h w sh p = h p
+
+  is_reading : (f : ℕ) (ts : List Term) (rs : List PossibleLead) (s : List Possible) → IsLed val cells W env ts rs → ((p : AbsValue → Bool) → held val p s ≡ held_lead val (read_held val cells W f p) rs) → IsMay val cells W env (t.Read f ts) s
+  unfolding IsMay IsLed
+  is_reading f ts rs s led h w sh p =
+      h p ∙ ap (λ q. held_lead val q rs) (fun_ext (λ r. read_is_seen val cells W w f p r sh))
+      ∙ led w sh (read_passes W w f p) ∙ sym (may-Read W w env f ts p)
 
   is_negation : (a : Term) (r s : List Possible) → IsMay val cells W env a r → ((p : AbsValue → Bool) → held val p s ≡ held val (λ v. p (Truth (not (truth v)))) r) → IsMay val cells W env (t.Not a) s
   unfolding IsMay
@@ -151,6 +171,7 @@ module _ (val : Edge → Bool) (cells : List (List Possible)) (W : Window) (env 
   forms_said = record {
     known = is_known;
     variable = is_variable;
+    reading = is_reading;
     negation = is_negation;
     choice = is_choice;
     comparison = is_comparison;

@@ -180,7 +180,7 @@ pub record AreLegal (old now : Network) (e : Edge) (cells : List (List Possible)
   pub edge : IsEdge now e
   pub value : (x : ℕ → Bool) (val : Edge → Bool) → Agrees now x val → val e ≡ legal_edges val cells
 
-all_push : {T : Type 0} (g : T → Bool) (s : List T) (t : T) → list_all g (s ++ t ∷ []) ≡ (list_all g s && g t)
+pub all_push : {T : Type 0} (g : T → Bool) (s : List T) (t : T) → list_all g (s ++ t ∷ []) ≡ (list_all g s && g t)
 all_push g [] t = and_true (g t)
 all_push g (o ∷ s) t = ap (λ b. g o && b) (all_push g s t) ∙ go (g o) (list_all g s) (g t)
   where

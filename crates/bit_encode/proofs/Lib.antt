@@ -4,3 +4,12 @@ pub mod Gaining
 pub mod CodeLemmas
 pub mod CellLemmas
 pub mod Arms
+pub mod ValueLemmas
+pub mod PlacingLemmas
+pub mod LeadLemmas
+pub mod ReadLemmas
+pub mod TermLemmas
+pub mod WindowLemmas
+pub mod FactLemmas
+pub mod StepLemmas
+pub mod FireLemmas

@@ -17,7 +17,9 @@ use Rattle.bit_encode.specs.declared.set.Possible.{Possible}
 use Rattle.bit_encode.specs.declared.combine.PairOp.{PairOp}
 use Rattle.bit_encode.specs.declared.combine.PairOp.TheVariants.{Same, Less, Arith}
 use Rattle.bit_encode.specs.MaySets.{held, pair_passes}
+use Rattle.bit_encode.specs.declared.leads.PossibleLead.{PossibleLead}
 use Rattle.bit_encode.specs.Coding.{Shows, IsMay}
+use Rattle.bit_encode.specs.Leads.{held_lead, read_held, IsLed}
 
 -- an edge is true exactly where a fact of the shown state holds
 abbrev pub Tells : (Edge → Bool) → List (List Possible) → Edge → (AbsCells → Bool) → Type 0
@@ -34,6 +36,8 @@ IsVerdict val all each other s = (p : AbsValue → Bool) → held val p s ≡ ei
 pub record FormsAreSaid (val : Edge → Bool) (cells : List (List Possible)) (W : Window) (env : List AbsNode) : Type 0 where
   pub known : (v : Value) (s : List Possible) → ((p : AbsValue → Bool) → held val p s ≡ p (constant v)) → IsMay val cells W env (t.Known v) s
   pub variable : (k : ℕ) (s : List Possible) → ((p : AbsValue → Bool) → held val p s ≡ p (bound env k)) → IsMay val cells W env (t.Var k) s
+  pub reading : (f : ℕ) (ts : List Term) (rs : List PossibleLead) (s : List Possible) → IsLed val cells W env ts rs
+      → ((p : AbsValue → Bool) → held val p s ≡ held_lead val (read_held val cells W f p) rs) → IsMay val cells W env (t.Read f ts) s
   pub negation : (a : Term) (r s : List Possible) → IsMay val cells W env a r
       → ((p : AbsValue → Bool) → held val p s ≡ held val (λ v. p (Truth (not (truth v)))) r) → IsMay val cells W env (t.Not a) s
   pub choice : (a b d : Term) (hold fail : Edge) (ra rb rd s : List Possible)

@@ -2,6 +2,9 @@
 pub mod Codes
 pub mod MaySets
 pub mod Coding
+pub mod Leads
 pub mod Forms
+pub mod Terms
+pub mod Steps
 pub mod Laws
 pub mod Worked

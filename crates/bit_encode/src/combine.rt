@@ -3,7 +3,7 @@
 
 #![tactic(auto, using(crate::proofs::Growing::growing, crate::proofs::Gaining::gaining))]
 
-ghost use Rattle.std.specs.Prelude.{◌≡◌, ◌&&◌, ◌||◌, ℕ, Bool, not, IfOk, OnOk};
+ghost use Rattle.std.specs.Prelude.{◌≡◌, ◌&&◌, ◌||◌, ℕ, Bool, true, false, not, IfOk, OnOk};
 ghost use Rattle.std.specs.List.{list_any};
 ghost use Rattle.circuit_core.specs.declared.edge.Edge.{Edge as EdgeOf};
 ghost use Rattle.circuit_core.specs.Network.{IsEdge};
@@ -11,10 +11,10 @@ ghost use Rattle.circuit_core.specs.Growth.{KeepsEdges};
 ghost use Rattle.other_abstract.specs.declared.value.AbsValue.{AbsValue as Abs};
 ghost use Rattle.other_abstract.specs.declared.value.AbsValue.TheVariants.{Truth};
 ghost use Rattle.other_abstract.specs.Windows.{truth};
-ghost use Rattle.other_abstract.specs.Tests.{either_way, same_passes};
+ghost use Rattle.other_abstract.specs.Tests.{passes, either_way, same_passes};
 ghost use Rattle.bit_encode.specs.MaySets.{Agrees, HasEdges, held, pair_passes};
 
-use crate::set::{MaySet, Possible};
+use crate::set::{MaySet, Possible, may_be};
 use circuit_core::{Circuit, Edge, Memory};
 use other_abstract::node::AbsNode;
 use other_abstract::value::AbsValue;
@@ -156,6 +156,30 @@ pub fn chosen(
     let mut out = MaySet::make(alloc);
     add_all(circuit, &mut out, hold, first)?;
     add_all(circuit, &mut out, fail, second)?;
+    Ok(out)
+}
+
+/// The members of the first set where the test may be true, and those of the second where it may be anything else.
+pub fn chosen_by(
+    alloc: Global,
+    circuit: &mut Circuit,
+    test: &[Possible],
+    first: &[Possible],
+    second: &[Possible],
+) -> Result<MaySet, Memory>
+    requires test { HasEdges circuit.old test.now }
+    requires first { HasEdges circuit.old first.now }
+    requires second { HasEdges circuit.old second.now }
+    ensures edges { IfOk result (λ out. HasEdges circuit.new out) }
+    ensures value { IfOk result (λ out. (x : ℕ → Bool) (val : EdgeOf → Bool) (p : Abs → Bool)
+        → Agrees circuit.new x val
+        → held val p out ≡ ((held val p first.now && held val (passes true) test.now)
+        || (held val p second.now && held val (passes false) test.now))) }
+    ensures keeps { KeepsEdges circuit.old circuit.new }
+{
+    let hold = may_be(circuit, test, true)?;
+    let fail = may_be(circuit, test, false)?;
+    let out = chosen(alloc, circuit, hold, fail, first, second)?;
     Ok(out)
 }
 

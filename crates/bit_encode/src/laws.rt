@@ -19,7 +19,7 @@ pub fn codes_show_states()
 {}
 
 /// What a form of term may be comes from what its parts may be, as `combine` and `tally` put the sets of the
-/// parts together: all forms but reads.
+/// parts together; and a read from where its indices may lead, as `read` puts the sets of the cells together.
 pub fn forms_are_said()
     ensures { FormsComeFromParts }
 {}

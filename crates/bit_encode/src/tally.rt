@@ -44,3 +44,28 @@ pub fn counted(
     let other = either(circuit, before.other, otherwise)?;
     Ok(Tally { each, other })
 }
+
+/// The tally with one part more, which may be otherwise but need not be so.
+pub fn counted_last(
+    circuit: &mut Circuit,
+    before: Tally,
+    from: &[Possible],
+    wanted: bool,
+) -> Result<Tally, Memory>
+    requires before_each { IsEdge circuit.old before.each }
+    requires before_other { IsEdge circuit.old before.other }
+    requires from { HasEdges circuit.old from.now }
+    ensures each_edge { IfOk result (λ t. IsEdge circuit.new t.each) }
+    ensures other_edge { IfOk result (λ t. IsEdge circuit.new t.other) }
+    ensures each { IfOk result (λ t. t.each ≡ before.each) }
+    ensures other { IfOk result (λ t. (x : ℕ → Bool) (val : EdgeOf → Bool) → Agrees circuit.new x val
+        → val t.other ≡ (val before.other || held val (passes (not wanted)) from.now)) }
+    ensures keeps { KeepsEdges circuit.old circuit.new }
+{
+    let otherwise = may_be(circuit, from, !wanted)?;
+    let other = either(circuit, before.other, otherwise)?;
+    Ok(Tally {
+        each: before.each,
+        other,
+    })
+}

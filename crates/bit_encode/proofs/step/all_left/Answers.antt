@@ -1,0 +1,12 @@
+use Rattle.other_abstract.specs.declared.place.Place.{Place}
+use Rattle.other_abstract.specs.Lists.{window_in}
+use Rattle.other_abstract.specs.Windows.{same_value}
+use Rattle.other_abstract.specs.May.{value_at}
+use Rattle.other_abstract.specs.Stepping.{kept_value}
+use Rattle.bit_encode.proofs.StepLemmas.{both_more}
+use Rattle.bit_encode.proofs.step.all_left.Goals as goal
+
+pub loop-place-preserved : goal.loop-place-preserved
+loop-place-preserved c =
+    both_more _ _ _ _ c.args.scene.now.cells.now c.args.kept.now.cells.now _ _ _ (λ w t (place : Place). same_value (kept_value (window_in c.args.scene.now.window) w place) (value_at (window_in c.args.kept.now.window) t place.family place.at)) c.args.places.now c.loop-place.place-index _ c.place-item.result
+    c.loop-place-test.true c.place-item.is c.loop-place.invariant c.is_left.ensures.keeps c.in_ok-one.ensures.tells c.both.ensures.keeps c.in_ok-all.ensures.edge c.in_ok-all.ensures.value
