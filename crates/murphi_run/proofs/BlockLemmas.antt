@@ -20,7 +20,7 @@ some_one : {A : Type 0} {a b : A} → Some a ≡ Some b → a ≡ b
 some_one e = cc
 
 -- a block lies among those of its list
-block_within : (N first : ℕ) (vs : List Variable) (k : ℕ) (b : Block) → slice_get (blocks_from N first vs) k ≡ Some b → (first ≤ b.first) × (b.first + size N b.of ≤ first + sizes N vs)
+pub block_within : (N first : ℕ) (vs : List Variable) (k : ℕ) (b : Block) → slice_get (blocks_from N first vs) k ≡ Some b → (first ≤ b.first) × (b.first + size N b.of ≤ first + sizes N vs)
 block_within N first [] k b e = absurd (none_some e)
 block_within N first (v ∷ vs) zero b e =
     let start : first ≡ b.first = ap (λ (c : Block). c.first) (some_one e) in
@@ -38,7 +38,7 @@ first_apart N first v vs k b c e f =
     let (low, high) = block_within N (first + size N v.of) vs k c f in
     omega (arith, start, many, low)
 
-blocks_apart : (N first : ℕ) (vs : List Variable) (j k : ℕ) (b c : Block) → slice_get (blocks_from N first vs) j ≡ Some b → slice_get (blocks_from N first vs) k ≡ Some c → (j ≡ k → ⊥) → (b.first + size N b.of ≤ c.first) ⊎ (c.first + size N c.of ≤ b.first)
+pub blocks_apart : (N first : ℕ) (vs : List Variable) (j k : ℕ) (b c : Block) → slice_get (blocks_from N first vs) j ≡ Some b → slice_get (blocks_from N first vs) k ≡ Some c → (j ≡ k → ⊥) → (b.first + size N b.of ≤ c.first) ⊎ (c.first + size N c.of ≤ b.first)
 blocks_apart N first [] j k b c e f apart = absurd (none_some e)
 blocks_apart N first (v ∷ vs) zero zero b c e f apart = absurd (apart refl)
 blocks_apart N first (v ∷ vs) zero (suc k) b c e f apart = inl (first_apart N first v vs k b c e f)
@@ -73,7 +73,7 @@ top_apart N T locals (Local zero j) (Formal depth k) b c e f apart = absurd (non
 pub top_is_layout : (N : ℕ) (T : Typed) (locals : List Variable) → IsLayout N (top_layout N T locals) (sizes N T.globals + sizes N locals)
 top_is_layout N T locals = record { within = top_within N T locals; apart = top_apart N T locals }
 
-get_blank : (n k : ℕ) → k < n → slice_get (replicate n Undefined) k ≡ Some Undefined
+pub get_blank : (n k : ℕ) → k < n → slice_get (replicate n Undefined) k ≡ Some Undefined
 get_blank zero k e = absurd (omega (arith, e))
 get_blank (suc n) zero e = refl
 get_blank (suc n) (suc k) e = get_blank n k (omega (arith, e))

@@ -5,5 +5,7 @@
 pub mod blocks;
 pub mod laws;
 pub mod layout;
+pub mod place;
 pub mod store;
 pub mod values;
+pub mod variable;
