@@ -1,0 +1,10 @@
+pub mod Cuts
+pub mod Texts
+pub mod TextStops
+pub mod Flows
+pub mod Telling
+pub mod ItemArms
+pub mod WordArms
+pub mod TextArms
+pub mod UseLemmas
+pub mod Answering
