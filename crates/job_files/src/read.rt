@@ -76,8 +76,8 @@ fn flows_told(alloc: Global, tokens: &[Token]) -> Result<Items<Flow>, JobRefusal
     requires { IsTrue (ends_once tokens.now) }
     ensures { TellsFlows tokens.now result }
 {
-    if let Some(at) = first_refused(tokens) {
-        return Err(JobRefusal::E10(at));
+    if let Some(place) = first_refused(tokens) {
+        return Err(JobRefusal::E10(place));
     }
     match flow_file(alloc, tokens, GREATEST_NESTING) {
         Ok((all, _)) => distinct_flows(alloc, all),

@@ -46,11 +46,11 @@ pub(crate) fn second_lemma(alloc: Global, all: &[Lemma]) -> Result<Option<Span>,
     ensures { IfOk result (λ o. o ≡ second_use (map lemma_name all.now)) }
 {
     let mut used: IndexMap<Vec<u8>, bool> = IndexMap::new(alloc);
-    for one in all {
-        if is_used(&used, &one.name.name) {
-            return Ok(Some(one.name.at));
+    for lemma in all {
+        if is_used(&used, &lemma.name.name) {
+            return Ok(Some(lemma.name.at));
         }
-        keep(alloc, &mut used, &one.name.name)?;
+        keep(alloc, &mut used, &lemma.name.name)?;
     }
     Ok(None)
 }
@@ -60,11 +60,11 @@ pub(crate) fn second_flow(alloc: Global, all: &[Flow]) -> Result<Option<Span>, M
     ensures { IfOk result (λ o. o ≡ second_use (map flow_name all.now)) }
 {
     let mut used: IndexMap<Vec<u8>, bool> = IndexMap::new(alloc);
-    for one in all {
-        if is_used(&used, &one.name.name) {
-            return Ok(Some(one.name.at));
+    for flow in all {
+        if is_used(&used, &flow.name.name) {
+            return Ok(Some(flow.name.at));
         }
-        keep(alloc, &mut used, &one.name.name)?;
+        keep(alloc, &mut used, &flow.name.name)?;
     }
     Ok(None)
 }

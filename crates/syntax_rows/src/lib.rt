@@ -1,4 +1,4 @@
-//! Rows of the readers of the whole language: texts, and what is read of each, worked out by hand.
+//! Rows of the readers of the whole language and of files of lemmas and of flows: texts, and what is read of each, worked out by hand.
 #![tactic(auto)]
 
 #[cfg(test)]
@@ -7,6 +7,8 @@ mod answers;
 mod expressions;
 #[cfg(test)]
 mod forms;
+#[cfg(test)]
+mod jobs;
 #[cfg(test)]
 mod long;
 #[cfg(test)]

@@ -3,5 +3,5 @@ use Rattle.job_files.specs.Told.{lemma_name, second_among, second_use}
 use Rattle.job_files.specs.Uses.{names_in}
 use Rattle.job_files.proofs.uses.second_lemma.Given as goal
 
-abbrev pub invariant-loop-one : goal.invariant-loop-one
-invariant-loop-one l = second_among (names_in l.used.entries) (map lemma_name (drop l.one-index l.all)) ≡ second_use (map lemma_name l.all)
+abbrev pub invariant-loop-lemma : goal.invariant-loop-lemma
+invariant-loop-lemma l = second_among (names_in l.used.entries) (map lemma_name (drop l.lemma-index l.all)) ≡ second_use (map lemma_name l.all)
