@@ -13,3 +13,4 @@ pub mod WindowLemmas
 pub mod FactLemmas
 pub mod StepLemmas
 pub mod FireLemmas
+pub mod OrderLemmas
