@@ -14,3 +14,4 @@ pub mod FactLemmas
 pub mod StepLemmas
 pub mod FireLemmas
 pub mod OrderLemmas
+pub mod FitLemmas

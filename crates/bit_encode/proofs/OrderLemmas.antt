@@ -163,11 +163,11 @@ module _ (W : Window) where
       none_before N (f ∷ fs) = refl
 
 -- each place is that of a cell
-all_append : {X : Type 0} (p : X → Bool) (xs ys : List X) → list_all p xs ≡ true → list_all p ys ≡ true → list_all p (xs ++ ys) ≡ true
+pub all_append : {X : Type 0} (p : X → Bool) (xs ys : List X) → list_all p xs ≡ true → list_all p ys ≡ true → list_all p (xs ++ ys) ≡ true
 all_append p [] ys h k = k
 all_append p (x ∷ xs) ys h k = let parts = and_parts (p x) (list_all p xs) h in ap (λ b. b && list_all p (xs ++ ys)) parts.0 ∙ all_append p xs ys parts.1 k
 
-all_map : {X Y : Type 0} (p : Y → Bool) (q : X → Bool) (f : X → Y) (xs : List X) → ((x : X) → p (f x) ≡ q x) → list_all q xs ≡ true → list_all p (map f xs) ≡ true
+pub all_map : {X Y : Type 0} (p : Y → Bool) (q : X → Bool) (f : X → Y) (xs : List X) → ((x : X) → p (f x) ≡ q x) → list_all q xs ≡ true → list_all p (map f xs) ≡ true
 all_map p q f [] same h = refl
 all_map p q f (x ∷ xs) same h = let parts = and_parts (q x) (list_all q xs) h in ap (λ b. b && list_all p (map f xs)) (same x ∙ parts.0) ∙ all_map p q f xs same parts.1
 
@@ -175,7 +175,7 @@ all_over : {X Y : Type 0} (p : Y → Bool) (f : X → Y) (xs : List X) → list_
 all_over p f [] = refl
 all_over p f (x ∷ xs) = ap (λ b. p (f x) && b) (all_over p f xs)
 
-numbers_are_nodes : (N s count : ℕ) → s + count ≤ N → list_all (is_node N) (nodes_from (suc s) count) ≡ true
+pub numbers_are_nodes : (N s count : ℕ) → s + count ≤ N → list_all (is_node N) (nodes_from (suc s) count) ≡ true
 numbers_are_nodes N s zero h = refl
 numbers_are_nodes N s (suc count) h =
     let here : is_node N (suc s) ≡ true = inside N s count h in
@@ -320,7 +320,7 @@ firing_steps M r p s w t count =
     (values_same (kept_value W w) (λ (place : Place). value_at K s place.family place.at) (places K) ∙ ap (λ z. same_values z (map (kept_value W w) (places K))) (state_at_places K s count))
 
 -- coded states have a value for each cell
-coded_length : (x : ℕ → Bool) (first : ℕ) (ls : List (List AbsValue)) → length (coded_state x first ls) ≡ length ls
+pub coded_length : (x : ℕ → Bool) (first : ℕ) (ls : List (List AbsValue)) → length (coded_state x first ls) ≡ length ls
 coded_length x first [] = refl
 coded_length x first (l ∷ ls) = ap suc (coded_length x (first + width (length l)) ls)
 

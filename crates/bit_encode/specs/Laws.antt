@@ -9,7 +9,7 @@ use Rattle.other_abstract.specs.Machines.{read_kept}
 use Rattle.term_core.specs.declared.machine.TermRule.{TermRule}
 use Rattle.other_abstract.specs.declared.machine.AbstractMachine.{AbstractMachine}
 use Rattle.other_abstract.specs.May.{AbsCells}
-use Rattle.other_abstract.specs.Machines.{window, fired_of}
+use Rattle.other_abstract.specs.Machines.{FitsWindow, window, fired_of}
 use Rattle.other_abstract.specs.Places.{places}
 use Rattle.other_abstract.specs.Stepping.{is_step}
 use Rattle.circuit_core.specs.Network.{Network}
@@ -49,6 +49,10 @@ LegalCodesAreSeen =
     (val : Edge → Bool) (x : ℕ → Bool) (first : ℕ) (lists : List (List AbsValue)) (cells : List (List Possible))
     → AreCoded val x first lists cells
     → legal_edges val cells ≡ is_legal x first lists
+
+-- A legal code is of a state of the window: it has a value for each cell, and each is one that the cell may have.
+abbrev pub LegalCodesFit : Type 0
+LegalCodesFit = (W : Window) (x : ℕ → Bool) (first : ℕ) → IsTrue (is_legal x first (cell_lists W)) → FitsWindow W (coded_state x first (cell_lists W))
 
 -- Where each of two sets has one value, the edge of their agreement is true exactly where the one, with a fired node
 -- read as Other, is the other.

@@ -1,7 +1,7 @@
 //! What holds of codes: laws, each on a function that does nothing.
 
 ghost use Rattle.bit_encode.specs.Worked.{WidthsAreAsWorked, CodesAreAsWorked, BitsAreAsCounted};
-ghost use Rattle.bit_encode.specs.Laws.{BitsStandForNumbers, PositionsHaveCodes, LegalCodesShowStates, LegalCodesAreSeen, WidthsAreLeast, AgreementIsSeen, FormsComeFromParts, FiringIsAStep, CodedFiringIsAStep};
+ghost use Rattle.bit_encode.specs.Laws.{BitsStandForNumbers, PositionsHaveCodes, LegalCodesShowStates, LegalCodesAreSeen, LegalCodesFit, WidthsAreLeast, AgreementIsSeen, FormsComeFromParts, FiringIsAStep, CodedFiringIsAStep};
 
 /// The bits of a number stand for it, and each position of a list has a code in as many bits as the list takes.
 pub fn positions_have_codes()
@@ -16,6 +16,11 @@ pub fn codes_show_states()
     ensures shows { LegalCodesShowStates }
     ensures legal { LegalCodesAreSeen }
     ensures agreement { AgreementIsSeen }
+{}
+
+/// A state that legal codes show has a value for each cell of the window, and each is one that the cell may have.
+pub fn legal_codes_fit()
+    ensures { LegalCodesFit }
 {}
 
 /// What a form of term may be comes from what its parts may be, as `combine` and `tally` put the sets of the
