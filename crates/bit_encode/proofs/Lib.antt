@@ -13,3 +13,5 @@ pub mod WindowLemmas
 pub mod FactLemmas
 pub mod StepLemmas
 pub mod FireLemmas
+pub mod OrderLemmas
+pub mod FitLemmas

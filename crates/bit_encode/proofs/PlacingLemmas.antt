@@ -24,7 +24,7 @@ choices_are N m before (n ∷ ns) =
     let more : N ^ suc (length (map (node_number m) ns)) ≡ N ^ length (map (node_number m) ns) * N = pow-suc N (length (map (node_number m) ns)) in
     choices_are N m (before * N + (node_number m n - 1)) ns ∙ grind (arith, more)
 
-choices_from_0 : (N m : ℕ) (ns : List AbsNode) → choices_before N m 0 ns ≡ choice_place N (map (node_number m) ns)
+pub choices_from_0 : (N m : ℕ) (ns : List AbsNode) → choices_before N m 0 ns ≡ choice_place N (map (node_number m) ns)
 choices_from_0 N m ns = choices_are N m 0 ns ∙ omega arith
 
 -- the place of a cell, exactly

@@ -26,7 +26,7 @@ get_map f [] i d e h = absurd (omega (arith, h))
 get_map f (x ∷ xs) zero d e h = refl
 get_map f (x ∷ xs) (suc i) d e h = get_map f xs i d e (omega (arith, h))
 
-length_map : {X Y : Type 0} (f : X → Y) (xs : List X) → length (map f xs) ≡ length xs
+pub length_map : {X Y : Type 0} (f : X → Y) (xs : List X) → length (map f xs) ≡ length xs
 length_map f [] = refl
 length_map f (x ∷ xs) = ap suc (length_map f xs)
 
@@ -40,11 +40,11 @@ map_take f [] (suc i) = refl
 map_take f (x ∷ xs) zero = refl
 map_take f (x ∷ xs) (suc i) = ap (λ r. f x ∷ r) (map_take f xs i)
 
-map_append : {X Y : Type 0} (f : X → Y) (xs ys : List X) → map f (xs ++ ys) ≡ map f xs ++ map f ys
+pub map_append : {X Y : Type 0} (f : X → Y) (xs ys : List X) → map f (xs ++ ys) ≡ map f xs ++ map f ys
 map_append f [] ys = refl
 map_append f (x ∷ xs) ys = ap (λ r. f x ∷ r) (map_append f xs ys)
 
-length_append : {X : Type 0} (xs ys : List X) → length (xs ++ ys) ≡ length xs + length ys
+pub length_append : {X : Type 0} (xs ys : List X) → length (xs ++ ys) ≡ length xs + length ys
 length_append [] ys = let e : length ys ≡ 0 + length ys = omega arith in e
 length_append (x ∷ xs) ys = let e = length_append xs ys in omega (arith, e)
 
@@ -90,7 +90,7 @@ count_flat (n ∷ ns) ls =
     one : (a b : ℕ) → b + a * b ≡ suc a * b
     one a b = grind arith
 
-count_lists : (ns : List AbsNode) (count : ℕ) → length (lists_of ns count) ≡ length ns ^ count
+pub count_lists : (ns : List AbsNode) (count : ℕ) → length (lists_of ns count) ≡ length ns ^ count
 count_lists ns zero = sym (pow-zero (length ns))
 count_lists ns (suc count) =
     count_flat ns (lists_of ns count) ∙ ap (λ k. length ns * k) (count_lists ns count)
@@ -103,7 +103,7 @@ map_same : {X Y : Type 0} (y : Y) (xs : List X) → map (λ x. y) xs ≡ replica
 map_same y [] = refl
 map_same y (x ∷ xs) = ap (λ r. y ∷ r) (map_same y xs)
 
-map_map : {X Y Z : Type 0} (f : Y → Z) (g : X → Y) (xs : List X) → map f (map g xs) ≡ map (λ x. f (g x)) xs
+pub map_map : {X Y Z : Type 0} (f : Y → Z) (g : X → Y) (xs : List X) → map f (map g xs) ≡ map (λ x. f (g x)) xs
 map_map f g [] = refl
 map_map f g (x ∷ xs) = ap (λ r. f (g x) ∷ r) (map_map f g xs)
 
@@ -111,7 +111,7 @@ count_numbers : (first n : ℕ) → length (nodes_from first n) ≡ n
 count_numbers first zero = refl
 count_numbers first (suc n) = ap suc (count_numbers (suc first) n)
 
-window_size : (W : Window) → length (window_nodes W) ≡ size W
+pub window_size : (W : Window) → length (window_nodes W) ≡ size W
 window_size W =
     length_append (map Kept (nodes W.kept)) (map Fired (nodes W.fired))
     ∙ ap (λ k. k + length (map Fired (nodes W.fired))) (length_map Kept (nodes W.kept) ∙ count_numbers 1 W.kept)

@@ -6,9 +6,17 @@ use Rattle.bit_encode.specs.declared.set.Possible.{Possible}
 use Rattle.other_abstract.specs.declared.node.AbsNode.{AbsNode}
 use Rattle.other_abstract.specs.Windows.{Window, same_value}
 use Rattle.other_abstract.specs.Machines.{read_kept}
-use Rattle.bit_encode.specs.MaySets.{held}
+use Rattle.term_core.specs.declared.machine.TermRule.{TermRule}
+use Rattle.other_abstract.specs.declared.machine.AbstractMachine.{AbstractMachine}
+use Rattle.other_abstract.specs.May.{AbsCells}
+use Rattle.other_abstract.specs.Machines.{FitsWindow, window, fired_of}
+use Rattle.other_abstract.specs.Places.{places}
+use Rattle.other_abstract.specs.Stepping.{is_step}
+use Rattle.circuit_core.specs.Network.{Network}
+use Rattle.bit_encode.specs.Steps.{TellsSides, fires}
+use Rattle.bit_encode.specs.MaySets.{Agrees, held}
 use Rattle.bit_encode.specs.Forms.{FormsAreSaid}
-use Rattle.bit_encode.specs.Codes.{width, number_of, bits_of, bits_at, coded_place, coded_state, is_legal}
+use Rattle.bit_encode.specs.Codes.{width, number_of, bits_of, bits_at, coded_place, cell_lists, coded_state, is_legal}
 use Rattle.bit_encode.specs.Coding.{Shows, AreCoded, IsExactly, legal_edges}
 
 -- The bits of a number stand for it, where there are enough of them.
@@ -42,6 +50,10 @@ LegalCodesAreSeen =
     → AreCoded val x first lists cells
     → legal_edges val cells ≡ is_legal x first lists
 
+-- A legal code is of a state of the window: it has a value for each cell, and each is one that the cell may have.
+abbrev pub LegalCodesFit : Type 0
+LegalCodesFit = (W : Window) (x : ℕ → Bool) (first : ℕ) → IsTrue (is_legal x first (cell_lists W)) → FitsWindow W (coded_state x first (cell_lists W))
+
 -- Where each of two sets has one value, the edge of their agreement is true exactly where the one, with a fired node
 -- read as Other, is the other.
 abbrev pub AgreementIsSeen : Type 0
@@ -54,3 +66,27 @@ AgreementIsSeen =
 -- The sets of all forms but reads come from those of their parts.
 abbrev pub FormsComeFromParts : Type 0
 FormsComeFromParts = (val : Edge → Bool) (cells : List (List Possible)) (W : Window) (env : List AbsNode) → FormsAreSaid val cells W env
+
+-- Over the cells of the kept nodes in order, what firing a rule under a pattern asks of the three states is the step of
+-- the abstract machine, for a kept state that has a value for each of them.
+abbrev pub FiringIsAStep : Type 0
+FiringIsAStep =
+    (M : AbstractMachine) (r : TermRule) (p : List AbsNode) (s w t : AbsCells)
+    → length s ≡ length (places (window M 0))
+    → fires (window M (fired_of p)) (window M 0) (window M 0) M.formulas r p (places (window M 0)) w s t ≡ is_step M s r p w t
+
+-- So where the sets of the window and of the two kept states are coded by inputs and the codes are legal, an edge that tells
+-- what firing asks is true exactly where the coded states are those of a step.
+abbrev pub CodedFiringIsAStep : Type 0
+CodedFiringIsAStep =
+    (M : AbstractMachine) (r : TermRule) (p : List AbsNode) (c : Network) (x : ℕ → Bool) (val : Edge → Bool) (a b d : ℕ)
+    (wide before after : List (List Possible)) (e : Edge)
+    → Agrees c x val
+    → AreCoded val x a (cell_lists (window M (fired_of p))) wide
+    → IsTrue (is_legal x a (cell_lists (window M (fired_of p))))
+    → AreCoded val x b (cell_lists (window M 0)) before
+    → IsTrue (is_legal x b (cell_lists (window M 0)))
+    → AreCoded val x d (cell_lists (window M 0)) after
+    → IsTrue (is_legal x d (cell_lists (window M 0)))
+    → TellsSides c wide before after e (fires (window M (fired_of p)) (window M 0) (window M 0) M.formulas r p (places (window M 0)))
+    → val e ≡ is_step M (coded_state x b (cell_lists (window M 0))) r p (coded_state x a (cell_lists (window M (fired_of p)))) (coded_state x d (cell_lists (window M 0)))

@@ -1,7 +1,7 @@
 //! What holds of codes: laws, each on a function that does nothing.
 
 ghost use Rattle.bit_encode.specs.Worked.{WidthsAreAsWorked, CodesAreAsWorked, BitsAreAsCounted};
-ghost use Rattle.bit_encode.specs.Laws.{BitsStandForNumbers, PositionsHaveCodes, LegalCodesShowStates, LegalCodesAreSeen, WidthsAreLeast, AgreementIsSeen, FormsComeFromParts};
+ghost use Rattle.bit_encode.specs.Laws.{BitsStandForNumbers, PositionsHaveCodes, LegalCodesShowStates, LegalCodesAreSeen, LegalCodesFit, WidthsAreLeast, AgreementIsSeen, FormsComeFromParts, FiringIsAStep, CodedFiringIsAStep};
 
 /// The bits of a number stand for it, and each position of a list has a code in as many bits as the list takes.
 pub fn positions_have_codes()
@@ -18,10 +18,23 @@ pub fn codes_show_states()
     ensures agreement { AgreementIsSeen }
 {}
 
+/// A state that legal codes show has a value for each cell of the window, and each is one that the cell may have.
+pub fn legal_codes_fit()
+    ensures { LegalCodesFit }
+{}
+
 /// What a form of term may be comes from what its parts may be, as `combine` and `tally` put the sets of the
 /// parts together; and a read from where its indices may lead, as `read` puts the sets of the cells together.
 pub fn forms_are_said()
     ensures { FormsComeFromParts }
+{}
+
+/// What `fires` tells of the three states, over the cells of the kept nodes in order, is the step of the abstract
+/// machine; so where the states are coded by inputs and the codes are legal, its edge is true exactly where the coded
+/// states are those of a step.
+pub fn firing_is_a_step()
+    ensures step { FiringIsAStep }
+    ensures coded { CodedFiringIsAStep }
 {}
 
 /// Cases worked by hand: widths, codes of a flag and a pointer, and how many bits German's protocol takes.
