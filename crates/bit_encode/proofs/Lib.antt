@@ -15,3 +15,4 @@ pub mod StepLemmas
 pub mod FireLemmas
 pub mod OrderLemmas
 pub mod FitLemmas
+pub mod BadLemmas

@@ -1,5 +1,5 @@
 -- What holds of codes. Each statement is the contract of a public function of `laws` that does nothing.
-use Rattle.std.specs.Prelude.{◌≡◌, ℕ, ◌<◌, ◌≤◌, ◌^◌, Bool, List, length, IsTrue}
+use Rattle.std.specs.Prelude.{◌≡◌, ◌↔◌, Some, slice_get, ℕ, ◌<◌, ◌≤◌, ◌^◌, Bool, List, length, IsTrue}
 use Rattle.circuit_core.specs.declared.edge.Edge.{Edge}
 use Rattle.other_abstract.specs.declared.value.AbsValue.{AbsValue}
 use Rattle.bit_encode.specs.declared.set.Possible.{Possible}
@@ -9,10 +9,14 @@ use Rattle.other_abstract.specs.Machines.{read_kept}
 use Rattle.term_core.specs.declared.machine.TermRule.{TermRule}
 use Rattle.other_abstract.specs.declared.machine.AbstractMachine.{AbstractMachine}
 use Rattle.other_abstract.specs.May.{AbsCells}
-use Rattle.other_abstract.specs.Machines.{FitsWindow, window, fired_of}
+use Rattle.other_abstract.specs.Machines.{FitsWindow, IsPattern, AbsFires, Violates, window, fired_of}
 use Rattle.other_abstract.specs.Places.{places}
 use Rattle.other_abstract.specs.Stepping.{is_step}
 use Rattle.circuit_core.specs.Network.{Network}
+use Rattle.std.specs.List.{list_any}
+use Rattle.lemma_strengthen.specs.declared.formula.Formula.{Formula}
+use Rattle.other_abstract.specs.Tests.{may_fail}
+use Rattle.bit_encode.specs.Terms.{TellsIn}
 use Rattle.bit_encode.specs.Steps.{TellsSides, fires}
 use Rattle.bit_encode.specs.MaySets.{Agrees, held}
 use Rattle.bit_encode.specs.Forms.{FormsAreSaid}
@@ -90,3 +94,33 @@ CodedFiringIsAStep =
     → IsTrue (is_legal x d (cell_lists (window M 0)))
     → TellsSides c wide before after e (fires (window M (fired_of p)) (window M 0) (window M 0) M.formulas r p (places (window M 0)))
     → val e ≡ is_step M (coded_state x b (cell_lists (window M 0))) r p (coded_state x a (cell_lists (window M (fired_of p)))) (coded_state x d (cell_lists (window M 0)))
+
+-- And so, for a rule of the machine and a pattern of it, the edge is true exactly where firing the rule leads from the one
+-- coded kept state to the other by the coded state of the window.
+abbrev pub CodedStepsAreSteps : Type 0
+CodedStepsAreSteps =
+    (M : AbstractMachine) (k : ℕ) (r : TermRule) (p : List AbsNode) (c : Network) (x : ℕ → Bool) (val : Edge → Bool) (a b d : ℕ)
+    (wide before after : List (List Possible)) (e : Edge)
+    → slice_get M.machine.rules k ≡ Some r
+    → IsPattern M.kept r p
+    → Agrees c x val
+    → AreCoded val x a (cell_lists (window M (fired_of p))) wide
+    → IsTrue (is_legal x a (cell_lists (window M (fired_of p))))
+    → AreCoded val x b (cell_lists (window M 0)) before
+    → IsTrue (is_legal x b (cell_lists (window M 0)))
+    → AreCoded val x d (cell_lists (window M 0)) after
+    → IsTrue (is_legal x d (cell_lists (window M 0)))
+    → TellsSides c wide before after e (fires (window M (fired_of p)) (window M 0) (window M 0) M.formulas r p (places (window M 0)))
+    → IsTrue (val e)
+    ↔ AbsFires M (coded_state x b (cell_lists (window M 0))) k p (coded_state x a (cell_lists (window M (fired_of p)))) (coded_state x d (cell_lists (window M 0)))
+
+-- Where the sets of a kept state are coded by inputs and the code is legal, an edge that tells that some formula may be
+-- false is true exactly where the coded state violates a formula.
+abbrev pub CodedViolationsAreViolations : Type 0
+CodedViolationsAreViolations =
+    (M : AbstractMachine) (c : Network) (x : ℕ → Bool) (val : Edge → Bool) (a : ℕ) (cells : List (List Possible)) (e : Edge)
+    → Agrees c x val
+    → AreCoded val x a (cell_lists (window M 0)) cells
+    → IsTrue (is_legal x a (cell_lists (window M 0)))
+    → TellsIn c cells e (λ w. list_any (λ (f : Formula). may_fail (window M 0) w f.prefix f.body) M.formulas)
+    → IsTrue (val e) ↔ ((k : ℕ) × (f : Formula) × (slice_get M.formulas k ≡ Some f) × Violates M (coded_state x a (cell_lists (window M 0))) f)

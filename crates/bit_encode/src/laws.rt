@@ -1,7 +1,9 @@
-//! What holds of codes: laws, each on a function that does nothing.
+//! What holds of codes, and of the edges that steps and formulas have: laws, each on a function that does no work.
 
 ghost use Rattle.bit_encode.specs.Worked.{WidthsAreAsWorked, CodesAreAsWorked, BitsAreAsCounted};
-ghost use Rattle.bit_encode.specs.Laws.{BitsStandForNumbers, PositionsHaveCodes, LegalCodesShowStates, LegalCodesAreSeen, LegalCodesFit, WidthsAreLeast, AgreementIsSeen, FormsComeFromParts, FiringIsAStep, CodedFiringIsAStep};
+ghost use Rattle.bit_encode.specs.Laws.{BitsStandForNumbers, PositionsHaveCodes, LegalCodesShowStates, LegalCodesAreSeen, LegalCodesFit, WidthsAreLeast, AgreementIsSeen, FormsComeFromParts, FiringIsAStep, CodedFiringIsAStep, CodedStepsAreSteps, CodedViolationsAreViolations};
+
+use other_abstract::laws::definitions_are_decided;
 
 /// The bits of a number stand for it, and each position of a list has a code in as many bits as the list takes.
 pub fn positions_have_codes()
@@ -36,6 +38,15 @@ pub fn firing_is_a_step()
     ensures step { FiringIsAStep }
     ensures coded { CodedFiringIsAStep }
 {}
+
+/// For a rule of the machine and a pattern of it, the edge is true exactly where the coded states are those of a step;
+/// and the edge of `some_may_fail` is true exactly where the coded kept state violates a formula.
+pub fn coded_steps_are_steps()
+    ensures steps { CodedStepsAreSteps }
+    ensures violations { CodedViolationsAreViolations }
+{
+    definitions_are_decided();
+}
 
 /// Cases worked by hand: widths, codes of a flag and a pointer, and how many bits German's protocol takes.
 pub fn codes_are_as_worked()
