@@ -2,6 +2,7 @@
 #![tactic(auto)]
 
 mod item;
+pub mod laws;
 pub mod read;
 pub mod refusal;
 mod text;

@@ -46,7 +46,7 @@ fn flows_of(alloc: Global, text: &[u8]) -> Want {
 
 #[test]
 fn files_of_lemmas(rt: HostRuntime) -> Result<(), Fail> {
-    let rows: [(&[u8], Want); 22] = [
+    let rows: [(&[u8], Want); 24] = [
         (b"", Want::Items(0)),
         (b"-- none\n/* at all */ ", Want::Items(0)),
         (b"lemma A : true;", Want::Items(1)),
@@ -71,6 +71,8 @@ fn files_of_lemmas(rt: HostRuntime) -> Result<(), Fail> {
         (b"lemma A true; while", Want::E10(1, 15)),
         (b"lemma A : true; lemma A : ;", Want::E04(1, 27)),
         (b"lemma A : # true;", Want::E03(1, 11)),
+        (b"lemma A : while # ;", Want::E03(1, 17)),
+        (b"lemma A : true\n", Want::E04(2, 1)),
         (b"lemma A : \x01 true;", Want::E02(1, 11)),
     ];
     for (text, want) in rows.as_slice() {
@@ -81,13 +83,16 @@ fn files_of_lemmas(rt: HostRuntime) -> Result<(), Fail> {
 
 #[test]
 fn files_of_flows(rt: HostRuntime) -> Result<(), Fail> {
-    let rows: [(&[u8], Want); 19] = [
+    let rows: [(&[u8], Want); 22] = [
         (b"", Want::Items(0)),
         (b"-- none", Want::Items(0)),
         (b"flows 1;", Want::Items(0)),
         (b"flows 01;", Want::Items(0)),
         (b"flows 2;", Want::E04(1, 7)),
         (b"flows;", Want::E04(1, 6)),
+        (b"flows 1;;", Want::E04(1, 9)),
+        (b"flows 1; flow A : \"while\".i, \"b\".j;", Want::Items(1)),
+        (b"flows 1; flow A : \"a\".end, \"b\".j;", Want::E04(1, 23)),
         (b"flows 1", Want::E04(1, 8)),
         (b"Flows 1;", Want::E04(1, 1)),
         (b"flow A : \"a\".i, \"b\".j;", Want::E04(1, 1)),
