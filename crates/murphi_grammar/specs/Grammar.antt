@@ -1,4 +1,5 @@
--- The grammar of protocols. From the Murphi manual, in this project's profile.
+-- The grammar of protocols, from the Murphi manual, in this project's profile; and of the items of files of
+-- lemmas and of flows, which are this project's own.
 --
 -- Each named form has its right side under `rule`, and under `build` what it gives of its parts, part for
 -- part. `a ▸ b` is a followed by b, and `a ∥ b` is either; `many a` is any number of a, and `optional a`

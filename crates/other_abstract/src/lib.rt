@@ -16,7 +16,7 @@ pub mod places;
 pub mod read;
 pub mod scene;
 pub mod set;
-mod starting;
+pub mod starting;
 pub mod state;
 mod stepping;
 pub mod value;

@@ -26,7 +26,7 @@ use term_core::text::Memory;
 use term_core::value::Sort;
 
 /// The value of the cells of a family before anything is written.
-fn blank_of(families: &[CellFamily], family: usize) -> AbsValue
+pub fn blank_of(families: &[CellFamily], family: usize) -> AbsValue
     ensures { result ≡ blank_of families.now family }
 {
     if family < families.len() {
@@ -70,7 +70,7 @@ fn blank_values(
 }
 
 /// Whether this is a node of the window, or Other.
-fn is_abs_node(scene: &Scene, node: AbsNode) -> bool
+pub fn is_abs_node(scene: &Scene, node: AbsNode) -> bool
     ensures { result ≡ is_abs_node (window_in scene.now) node }
 {
     match node {
@@ -81,7 +81,7 @@ fn is_abs_node(scene: &Scene, node: AbsNode) -> bool
 }
 
 /// Whether a value is of a sort, in the window.
-fn is_of_sort(scene: &Scene, sort: &Sort, value: AbsValue) -> bool
+pub fn is_of_sort(scene: &Scene, sort: &Sort, value: AbsValue) -> bool
     ensures { result ≡ is_of_sort (window_in scene.now) sort.now value }
 {
     match (sort, value) {
@@ -96,7 +96,7 @@ fn is_of_sort(scene: &Scene, sort: &Sort, value: AbsValue) -> bool
 }
 
 /// Whether a cell of the family of this number may have a value.
-fn may_have(scene: &Scene, family: usize, value: AbsValue) -> bool
+pub fn may_have(scene: &Scene, family: usize, value: AbsValue) -> bool
     ensures { result ≡ may_have (window_in scene.now) family value }
 {
     if family < scene.families.len() {
@@ -110,7 +110,7 @@ fn may_have(scene: &Scene, family: usize, value: AbsValue) -> bool
 }
 
 /// A value, or undefined where the cells of the family cannot have it.
-fn settled(scene: &Scene, family: usize, value: AbsValue) -> AbsValue
+pub fn settled(scene: &Scene, family: usize, value: AbsValue) -> AbsValue
     ensures { result ≡ settled (window_in scene.now) family value }
 {
     if may_have(scene, family, value) {
@@ -121,7 +121,7 @@ fn settled(scene: &Scene, family: usize, value: AbsValue) -> AbsValue
 }
 
 /// Whether one of the values is this, fired nodes read as Other, and settled in the kept window.
-fn has_settled(kept: &Scene, family: usize, values: &[AbsValue], wanted: AbsValue) -> bool
+pub fn has_settled(kept: &Scene, family: usize, values: &[AbsValue], wanted: AbsValue) -> bool
     ensures { result ≡ list_any (λ x. same_value (settled (window_in kept.now) family
         (read_kept x)) wanted) values.now }
 {

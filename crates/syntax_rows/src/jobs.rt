@@ -1,7 +1,9 @@
-//! Files of lemmas and of flows: how many items a file has, or the place where it is refused.
+//! Files of lemmas and of flows: how many items a file has and what they say, or the place where it is refused.
 
 use job_files::read::{flows, lemmas};
 use job_files::refusal::JobRefusal;
+use murphi_ast::job::{Flow, Lemma};
+use murphi_ast::token::Span;
 use std::alloc::Global;
 use std::test::Fail;
 
@@ -140,5 +142,76 @@ fn nestings_in_a_lemma(rt: HostRuntime) -> Result<(), Fail> {
     assert_eq!(rt; lemmas_of(rt.alloc(), last.as_slice()), Want::Items(1));
     let more = nested(rt.alloc(), 101)?;
     assert_eq!(rt; lemmas_of(rt.alloc(), more.as_slice()), Want::E15(1, 111));
+    Ok(())
+}
+
+/// Whether this is that word, at that line and column.
+fn is_word(word: &[u8], at: Span, wanted: (&[u8], u32, u32)) -> bool {
+    word == wanted.0 && at.line == wanted.1 && at.column == wanted.2
+}
+
+/// Whether the item of this number is a lemma of that name.
+fn names_lemma(all: &[Lemma], i: usize, wanted: (&[u8], u32, u32)) -> bool {
+    match all.get(i) {
+        Some(lemma) => is_word(lemma.name.name.bytes(), lemma.name.at, wanted),
+        None => false,
+    }
+}
+
+/// Whether the item of this number is a flow of that name.
+fn names_flow(all: &[Flow], i: usize, wanted: (&[u8], u32, u32)) -> bool {
+    match all.get(i) {
+        Some(flow) => is_word(flow.name.name.bytes(), flow.name.at, wanted),
+        None => false,
+    }
+}
+
+/// Whether the event of this number of the flow is of that rule and of that parameter.
+fn has_event(all: &[Flow], i: usize, k: usize, rule: (&[u8], u32, u32), param: &[u8]) -> bool {
+    match all.get(i) {
+        Some(flow) => match flow.events.as_slice().get(k) {
+            Some(event) => {
+                is_word(event.rule.bytes(), event.at, rule) && event.param.bytes() == param
+            }
+            None => false,
+        },
+        None => false,
+    }
+}
+
+#[test]
+fn what_lemmas_are_listed(rt: HostRuntime) -> Result<(), Fail> {
+    match lemmas(rt.alloc(), b"lemma A : x;\n-- more\n lemma Bc : true;") {
+        Ok(all) => {
+            let all = all.as_slice();
+            assert_eq!(rt; all.len(), 2);
+            assert_eq!(rt; names_lemma(all, 0, (b"A", 1, 7)), true);
+            assert_eq!(rt; names_lemma(all, 1, (b"Bc", 3, 8)), true);
+        }
+        Err(e) => assert_eq!(rt; refused(e), Want::Items(2)),
+    }
+    Ok(())
+}
+
+#[test]
+fn what_flows_are_listed(rt: HostRuntime) -> Result<(), Fail> {
+    match flows(
+        rt.alloc(),
+        b"flows 1;\nflow Up : \"a b\".i,\n  \"c\".jk;\nflow D:\"e\".f,\"g\".h,\"e\".i;",
+    ) {
+        Ok(all) => {
+            let all = all.as_slice();
+            assert_eq!(rt; all.len(), 2);
+            assert_eq!(rt; names_flow(all, 0, (b"Up", 2, 6)), true);
+            assert_eq!(rt; has_event(all, 0, 0, (b"a b", 2, 11), b"i"), true);
+            assert_eq!(rt; has_event(all, 0, 1, (b"c", 3, 3), b"jk"), true);
+            assert_eq!(rt; has_event(all, 0, 2, (b"e", 4, 8), b"f"), false);
+            assert_eq!(rt; names_flow(all, 1, (b"D", 4, 6)), true);
+            assert_eq!(rt; has_event(all, 1, 0, (b"e", 4, 8), b"f"), true);
+            assert_eq!(rt; has_event(all, 1, 1, (b"g", 4, 14), b"h"), true);
+            assert_eq!(rt; has_event(all, 1, 2, (b"e", 4, 20), b"i"), true);
+        }
+        Err(e) => assert_eq!(rt; refused(e), Want::Items(2)),
+    }
     Ok(())
 }

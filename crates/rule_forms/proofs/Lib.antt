@@ -1,0 +1,9 @@
+pub mod BranchEquations
+pub mod DemandForms
+pub mod IndexEquations
+pub mod ListLemmas
+pub mod OperatorEquations
+pub mod ReadEquations
+pub mod SiteEquations
+pub mod StatementEquations
+pub mod WrittenStep

@@ -1,0 +1,6 @@
+use Rattle.std.proofs.Common.{◌≡◌, ◌++◌, map, drop}
+use Rattle.rule_parts.specs.Layers.{seen_given}
+use Rattle.rule_forms.proofs.site.copy_givens.Given as goal
+
+abbrev pub invariant-loop-one : goal.invariant-loop-one
+invariant-loop-one l = map seen_given l.out ++ map seen_given (drop l.one-index l.all) ≡ map seen_given l.all
