@@ -1,0 +1,9 @@
+pub mod Found
+pub mod SymbolFacts
+pub mod Usables
+pub mod TitleLemmas
+pub mod Going
+pub mod Rests
+pub mod Written
+pub mod Alive
+pub mod Telling
