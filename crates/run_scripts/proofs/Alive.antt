@@ -1,9 +1,7 @@
 -- What was read can be carried on: some tokens behind it make a script of it.
-use Rattle.std.specs.Prelude.{codes, nat_eq, ◌&&◌, ◌||◌, map, option_map, slice_get, if◌then◌else◌}
-use Rattle.std.specs.Option.{option_map_or}
-use Rattle.std.specs.Str.{bytes_eq}
-use Rattle.std.proofs.Common.{◌≡◌, ℕ, zero, suc, ◌+◌, ◌<◌, Bool, true, false, cond, List, [], ◌∷◌, ◌++◌, drop, length, Option, Some, None, Result, Ok, Err, refl, sym, ap, ◌∙◌, subst, arith, append-nil, append_assoc}
-use Rattle.std.proofs.lemmas.Bool.{eqb-true, eq-eqb}
+use Rattle.std.specs.Prelude.{codes, ◌&&◌, ◌||◌, slice_get}
+use Rattle.std.proofs.Common.{◌≡◌, ℕ, suc, Bool, true, false, List, [], ◌∷◌, ◌++◌, drop, length, Option, Some, None, Ok, refl, sym, ap, ◌∙◌, subst}
+use Rattle.std.proofs.lemmas.Bool.{eqb-true}
 use Rattle.term_core.specs.declared.value.Value.{Value}
 use Rattle.murphi_ast.specs.declared.token.Token.{Token}
 use Rattle.murphi_ast.specs.declared.token.Span.{Span}
@@ -13,11 +11,10 @@ use Rattle.run_scripts.specs.declared.refusal.Line.{Line}
 use Rattle.run_scripts.specs.declared.phase.Phase.{Phase}
 use Rattle.run_scripts.specs.declared.phase.Phase.TheVariants.{Opening, Naming, Giving, Signed, Between, Done}
 use Rattle.run_scripts.specs.declared.phase.Progress.{Progress}
-use Rattle.run_scripts.specs.Values.{is_number_kind, minus_value}
 use Rattle.run_scripts.specs.Usable.{are_writable}
 use Rattle.run_scripts.specs.Scripts.{first_of, params, titles}
 use Rattle.run_scripts.specs.Scripts as w
-use Rattle.run_scripts.specs.Reading.{in_phase, is_done, is_number_of, next_param, opens, opens_from, sign_step, step, steps, value_step}
+use Rattle.run_scripts.specs.Reading.{is_done, is_number_of, opens, opens_from, sign_step, steps, value_step}
 use Rattle.run_scripts.proofs.SymbolFacts.{and_left, and_right, drop_head, drop_more}
 use Rattle.run_scripts.proofs.Usables.{all_have, end_token, number_token, quoted_token, sign_token, takes_has}
 use Rattle.run_scripts.proofs.Going.{between, fires_go, giving, naming, rest_goes, signed, steps_on, title_goes}

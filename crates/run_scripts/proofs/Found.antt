@@ -1,6 +1,5 @@
 -- Members that are looked for.
-use Rattle.std.proofs.Common.{◌≡◌, ◌∙◌, ℕ, zero, suc, ◌+◌, ◌-◌, ◌<◌, ◌≤◌, Bool, true, false, cond, List, Option, None, Some, refl, ap, sym, subst, arith}
-use Rattle.std.specs.Prelude.{if◌then◌else◌}
+use Rattle.std.proofs.Common.{◌≡◌, ◌∙◌, ℕ, suc, ◌+◌, ◌-◌, ◌<◌, ◌≤◌, cond, List, None, Some, ap, arith}
 use Rattle.std.specs.Str.{bytes_eq}
 use Rattle.murphi_typed.specs.declared.types.Kind.{Kind}
 use Rattle.run_scripts.specs.Values.{plain_text, search}

@@ -1,23 +1,22 @@
 -- What is written is read: over tokens that write a part, reading goes on behind it.
-use Rattle.std.specs.Prelude.{codes, nat_eq, ◌&&◌, ◌||◌, map, option_map, slice_get, if◌then◌else◌}
-use Rattle.std.specs.Option.{option_map_or}
+use Rattle.std.specs.Prelude.{codes, ◌&&◌, ◌||◌, option_map, slice_get}
 use Rattle.std.specs.Str.{bytes_eq}
-use Rattle.std.proofs.Common.{◌≡◌, ℕ, zero, suc, ◌+◌, ◌<◌, Bool, true, false, cond, List, [], ◌∷◌, ◌++◌, drop, length, Option, Some, None, Result, Ok, Err, refl, sym, ap, ◌∙◌, subst, arith, append-nil, append_assoc}
-use Rattle.std.proofs.lemmas.Bool.{eqb-true, eq-eqb}
+use Rattle.std.proofs.Common.{◌≡◌, ℕ, zero, suc, ◌+◌, Bool, true, false, cond, List, [], ◌∷◌, ◌++◌, drop, length, Option, Some, None, Result, Ok, Err, refl, sym, ap, ◌∙◌, subst, arith, append-nil, append_assoc}
+use Rattle.std.proofs.lemmas.Bool.{eq-eqb}
 use Rattle.term_core.specs.declared.value.Value.{Value}
 use Rattle.murphi_ast.specs.declared.token.Token.{Token}
 use Rattle.murphi_ast.specs.declared.token.Span.{Span}
 use Rattle.murphi_typed.specs.declared.types.Simple.{Simple}
 use Rattle.murphi_typed.specs.declared.protocol.Typed.{Typed}
 use Rattle.run_scripts.specs.declared.refusal.Line.{Line}
-use Rattle.run_scripts.specs.declared.phase.Phase.TheVariants.{Opening, Naming, Giving, Signed, Between, Done}
+use Rattle.run_scripts.specs.declared.phase.Phase.TheVariants.{Naming, Giving, Signed, Between, Done}
 use Rattle.run_scripts.specs.declared.phase.Progress.{Progress}
-use Rattle.run_scripts.specs.Values.{is_end_kind, is_number_kind, is_quoted_kind, is_sign, is_word, is_word_kind, minus_value, one_value}
+use Rattle.run_scripts.specs.Values.{is_end_kind, is_number_kind, is_quoted_kind, is_word_kind, minus_value, one_value}
 use Rattle.run_scripts.specs.Usable.{are_writable, takes_minus}
 use Rattle.run_scripts.specs.Scripts.{IsEnd, IsNumber, IsSign, IsString, IsWord, WritesFires, WritesLine, WritesScript, WritesValue, WritesValues, first_of, line_word, params, titles}
 use Rattle.run_scripts.specs.Scripts as w
 use Rattle.run_scripts.specs.Reading.{fresh, give_step, go_on, in_phase, is_done, is_number_of, opens, opens_from, sign_step, step, steps, title_step, value_step}
-use Rattle.run_scripts.proofs.SymbolFacts.{and_both, drop_head, drop_more, drop_none, err_is, is_sign_it, is_word_it, ok_err, ok_is, same_bytes, some_is}
+use Rattle.run_scripts.proofs.SymbolFacts.{and_both, drop_head, drop_more, drop_none, is_sign_it, is_word_it, same_bytes}
 use Rattle.run_scripts.proofs.Usables.{minus_takes, one_no_minus, values_can}
 
 abbrev pub naming : Bool → ℕ → List Line → Progress

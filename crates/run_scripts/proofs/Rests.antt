@@ -1,7 +1,6 @@
 -- What is read is written: by how far reading came, what the tokens that are left write.
-use Rattle.std.specs.Prelude.{codes, nat_eq, ◌&&◌, ◌||◌, map, option_map, slice_get, if◌then◌else◌}
-use Rattle.std.specs.Str.{bytes_eq}
-use Rattle.std.proofs.Common.{◌≡◌, ℕ, zero, suc, ◌+◌, ◌<◌, Bool, true, false, cond, List, [], ◌∷◌, ◌++◌, drop, length, Option, Some, None, Result, Ok, Err, refl, sym, ap, ◌∙◌, subst, arith, append-nil, append_assoc}
+use Rattle.std.specs.Prelude.{codes, ◌&&◌}
+use Rattle.std.proofs.Common.{◌≡◌, ℕ, suc, Bool, true, false, cond, List, [], ◌∷◌, ◌++◌, drop, length, Option, Some, None, Result, Ok, Err, refl, sym, ap, ◌∙◌, subst}
 use Rattle.term_core.specs.declared.value.Value.{Value}
 use Rattle.murphi_ast.specs.declared.token.Token.{Token}
 use Rattle.murphi_ast.specs.declared.token.Span.{Span}
@@ -13,10 +12,9 @@ use Rattle.run_scripts.specs.declared.phase.Phase.TheVariants.{Opening, Naming, 
 use Rattle.run_scripts.specs.declared.phase.Progress.{Progress}
 use Rattle.run_scripts.specs.Values.{is_end_kind, is_number_kind, is_quoted_kind, is_sign, is_word, minus_value, one_value}
 use Rattle.run_scripts.specs.Usable.{are_writable, takes_minus}
-use Rattle.run_scripts.specs.Scripts.{IsEnd, IsMinus, IsNumber, IsSign, IsString, IsWord, WritesFires, WritesLine, WritesScript, WritesValue, WritesValues, first_of, line_word, params, titles}
-use Rattle.run_scripts.specs.Scripts as w
-use Rattle.run_scripts.specs.Reading.{closing_step, fresh, give_step, go_on, in_phase, is_done, line_ended, line_opened, next_param, opens, sign_step, step, step_in, steps, title_step, titled, value_step, with_value}
-use Rattle.run_scripts.proofs.SymbolFacts.{and_left, and_right, and_both, drop_head, drop_more, drop_none, end_kind, none_drop, number_kind, ok_is, quoted_kind, sign_is, some_drop, word_is}
+use Rattle.run_scripts.specs.Scripts.{IsNumber, IsSign, IsString, WritesFires, WritesScript, WritesValues, first_of, line_word, params, titles}
+use Rattle.run_scripts.specs.Reading.{give_step, in_phase, line_ended, line_opened, next_param, opens, sign_step, step, step_in, title_step, titled, value_step}
+use Rattle.run_scripts.proofs.SymbolFacts.{and_right, drop_head, drop_more, ok_is, some_drop}
 
 -- a title, values, the end of the line, and then lines that fire
 pub record TitleRest (N : ℕ) (T : Typed) (firing : Bool) (ts : List Token) (more : List Line) : Type 0 where

@@ -1,7 +1,7 @@
 -- What reading tells of a script: the lines that the tokens write, or where they stop.
-use Rattle.std.specs.Prelude.{codes, pos, nat_eq, ◌&&◌, ◌||◌, not, slice_get, if◌then◌else◌}
+use Rattle.std.specs.Prelude.{codes, pos, nat_eq, ◌&&◌, not}
 use Rattle.std.specs.Str.{bytes_eq}
-use Rattle.std.proofs.Common.{◌≡◌, ℕ, zero, suc, ◌+◌, ◌<◌, Bool, true, false, cond, List, [], ◌∷◌, ◌++◌, drop, length, Option, Some, None, Result, Ok, Err, refl, sym, ap, ◌∙◌, subst, append-nil, append_assoc}
+use Rattle.std.proofs.Common.{◌≡◌, ℕ, Bool, true, false, cond, List, [], ◌∷◌, ◌++◌, length, Option, Some, None, Result, Ok, Err, refl, sym, ap, ◌∙◌, subst, append-nil, append_assoc}
 use Rattle.term_core.specs.declared.value.Value.{Value}
 use Rattle.term_core.specs.declared.value.Value.TheVariants as value
 use Rattle.murphi_ast.specs.Spelling as bytes
@@ -30,12 +30,12 @@ use Rattle.run_scripts.specs.declared.phase.Phase.TheVariants.{Opening, Naming, 
 use Rattle.run_scripts.specs.declared.phase.Progress.{Progress}
 use Rattle.run_scripts.specs.Values.{is_end_kind, is_number_kind, is_quoted_kind, is_sign, is_sign_kind, is_word, is_word_kind, member, minus_value, number_value, one_value}
 use Rattle.run_scripts.specs.Usable.{are_writable, takes_minus}
-use Rattle.run_scripts.specs.Scripts.{Begins, CountsAsOne, EndsInMinus, GoesOn, IsMinus, IsNumber, StartsWithNumber, StopsAt, WritesScript, first_of, line_word, pair, params, single, titles}
-use Rattle.run_scripts.specs.Reading.{Finished, IsReadAs, closing_step, fresh, give_step, go_on, in_phase, is_done, line_ended, line_opened, next_param, opens, sign_step, step, step_in, steps, title_step, titled, value_step, with_value}
+use Rattle.run_scripts.specs.Scripts.{Begins, CountsAsOne, EndsInMinus, IsMinus, IsNumber, StartsWithNumber, StopsAt, WritesScript, first_of, line_word, pair, params, single, titles}
+use Rattle.run_scripts.specs.Reading.{Finished, IsReadAs, fresh, give_step, go_on, in_phase, is_done, line_ended, line_opened, next_param, opens, sign_step, step, step_in, steps, title_step, titled, value_step}
 use Rattle.run_scripts.specs.Told.{IsAnswered, Tells, TellsBytes, lexed}
-use Rattle.run_scripts.proofs.SymbolFacts.{and_left, and_right, drop_head, err_is, is_sign_it, last_same, never_last, number_kind, number_no_sign, ok_err, ok_is, sign_is, sign_no_number, true_false}
+use Rattle.run_scripts.proofs.SymbolFacts.{and_left, and_right, drop_head, err_is, is_sign_it, last_same, never_last, number_kind, ok_err, ok_is, sign_is, sign_no_number, true_false}
 use Rattle.run_scripts.proofs.Going.{script_goes, steps_both, steps_off, steps_on}
-use Rattle.run_scripts.proofs.Rests.{Good, GoodIn, GoodSigned, cond_ok, left, step_good}
+use Rattle.run_scripts.proofs.Rests.{Good, GoodIn, GoodSigned, cond_ok, step_good}
 use Rattle.run_scripts.proofs.Written.{read_writes}
 use Rattle.run_scripts.proofs.Alive.{leads}
 

@@ -1,10 +1,7 @@
 -- Which types have a value that tokens write: where one is written there is one, and where there is one some
 -- tokens write it.
-use Rattle.std.specs.Prelude.{codes, nat_eq, nat_lt, nat_le, ◌&&◌, ◌||◌, not, min, is_some, option_map, slice_get, if◌then◌else◌, ℤ, pos, negsuc, ◌-ℤ◌, int_le, ◌≤ℤ◌}
-use Rattle.std.specs.List.{list_all}
-use Rattle.std.specs.Str.{bytes_eq}
-use Rattle.std.proofs.Common.{◌≡◌, ℕ, zero, suc, ◌+◌, ◌<◌, ◌≤◌, Bool, true, false, cond, List, [], ◌∷◌, ◌++◌, drop, length, Option, Some, None, Result, Ok, Err, refl, sym, ap, ◌∙◌, subst, arith, lt-ltb, le-leb, ltb→lt, leb-true, ltb-true}
-use Rattle.std.proofs.lemmas.Bool.{eqb-true, eq-eqb}
+use Rattle.std.specs.Prelude.{codes, nat_lt, nat_le, ◌&&◌, min, is_some, option_map, slice_get, if◌then◌else◌, ℤ, pos, negsuc, ◌-ℤ◌, int_le, ◌≤ℤ◌}
+use Rattle.std.proofs.Common.{◌≡◌, ℕ, zero, suc, ◌<◌, ◌≤◌, Bool, true, false, cond, List, [], ◌∷◌, ◌++◌, length, Option, Some, None, refl, ap, ◌∙◌, arith, lt-ltb, le-leb, leb-true, ltb-true}
 use Rattle.std.proofs.lemmas.Option.{slice_get_within}
 use Rattle.term_core.specs.declared.value.Value.{Value}
 use Rattle.term_core.specs.declared.value.Value.TheVariants as value

@@ -1,7 +1,6 @@
 -- What is read to the end is what the tokens write.
-use Rattle.std.specs.Prelude.{codes, nat_eq, ◌&&◌, ◌||◌, map, option_map, slice_get, if◌then◌else◌}
-use Rattle.std.specs.Str.{bytes_eq}
-use Rattle.std.proofs.Common.{◌≡◌, ℕ, zero, suc, ◌+◌, ◌<◌, Bool, true, false, cond, List, [], ◌∷◌, ◌++◌, drop, length, Option, Some, None, Result, Ok, Err, refl, sym, ap, ◌∙◌, subst, arith, append-nil, append_assoc}
+use Rattle.std.specs.Prelude.{codes, ◌&&◌}
+use Rattle.std.proofs.Common.{◌≡◌, ℕ, suc, Bool, true, false, cond, List, [], ◌∷◌, ◌++◌, drop, length, Option, Some, None, Result, Ok, Err, refl, sym, ap, ◌∙◌, subst, append-nil, append_assoc}
 use Rattle.term_core.specs.declared.value.Value.{Value}
 use Rattle.murphi_ast.specs.declared.token.Token.{Token}
 use Rattle.murphi_ast.specs.declared.token.Span.{Span}
@@ -16,7 +15,7 @@ use Rattle.run_scripts.specs.Usable.{are_writable, takes_minus}
 use Rattle.run_scripts.specs.Scripts.{IsEnd, IsMinus, IsNumber, IsSign, IsString, IsWord, WritesFires, WritesLine, WritesScript, WritesValue, WritesValues, first_of, line_word, params, titles}
 use Rattle.run_scripts.specs.Scripts as w
 use Rattle.run_scripts.specs.Reading.{fresh, give_step, go_on, in_phase, is_done, line_ended, line_opened, next_param, opens, sign_step, step, step_in, steps, title_step, titled, value_step, with_value}
-use Rattle.run_scripts.proofs.SymbolFacts.{and_left, and_right, drop_head, drop_more, end_kind, none_drop, number_kind, ok_is, quoted_kind, sign_is, some_drop, word_is}
+use Rattle.run_scripts.proofs.SymbolFacts.{and_left, drop_head, drop_more, end_kind, none_drop, number_kind, ok_is, quoted_kind, sign_is, some_drop, word_is}
 use Rattle.run_scripts.proofs.Rests.{Good, GoodIn, GoodSigned, Rest, RestIn, SignedRest, TitleRest, ValuesRest, cond_ok, left, step_good}
 
 module _ (N : ℕ) (T : Typed) where

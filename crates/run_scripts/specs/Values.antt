@@ -1,6 +1,6 @@
 -- Values as a script writes them: a node is a number, a member of a scalarset T of a written size is `T_k`, an
 -- enum value is its name, with no apostrophe.
-use Rattle.std.specs.Prelude.{ℕ, zero, suc, Bool, true, false, ◌&&◌, nat_eq, nat_le, min, List, [], ◌∷◌, ◌++◌, Option, None, Some, option_map, slice_get, if◌then◌else◌, ℤ, pos, ◌-ℤ◌}
+use Rattle.std.specs.Prelude.{ℕ, zero, suc, Bool, true, false, ◌&&◌, nat_eq, nat_le, min, List, [], Option, None, Some, option_map, slice_get, if◌then◌else◌, pos, ◌-ℤ◌}
 use Rattle.std.specs.Option.{option_map_or}
 use Rattle.std.specs.Str.{bytes_eq}
 use Rattle.term_core.specs.declared.value.Value.{Value}

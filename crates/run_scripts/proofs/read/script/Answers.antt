@@ -1,4 +1,4 @@
-use Rattle.std.proofs.Common.{◌≡◌, Err, subst, sym}
+use Rattle.std.proofs.Common.{Err, subst, sym}
 use Rattle.run_scripts.specs.Reading.{IsReadAs}
 use Rattle.run_scripts.specs.Told.{IsAnswered, TellsBytes}
 use Rattle.run_scripts.proofs.Telling.{bytes_only, bytes_told, lexed_only, lexed_told, read_told}

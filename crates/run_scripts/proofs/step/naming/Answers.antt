@@ -1,5 +1,5 @@
-use Rattle.std.proofs.Common.{◌≡◌, Some, ◌∙◌, ap, sym}
-use Rattle.run_scripts.specs.Scripts.{first_of, titles}
+use Rattle.std.proofs.Common.{sym}
+use Rattle.run_scripts.specs.Scripts.{titles}
 use Rattle.run_scripts.proofs.TitleLemmas.{first_within}
 use Rattle.run_scripts.proofs.step.naming.Goals as goal
 

@@ -1,4 +1,4 @@
-use Rattle.std.proofs.Common.{◌≡◌, ◌<◌, ◌∙◌, length, sym, subst}
+use Rattle.std.proofs.Common.{◌<◌, ◌∙◌, length, subst}
 use Rattle.run_scripts.specs.Scripts.{titles}
 use Rattle.run_scripts.proofs.TitleLemmas.{opens_no, opens_yes}
 use Rattle.run_scripts.proofs.titles.opened.Goals as goal
