@@ -1,0 +1,4 @@
+pub mod EntryEquations
+pub mod ListLemmas
+pub mod PieceEquations
+pub mod TopEquations

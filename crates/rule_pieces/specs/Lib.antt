@@ -1,0 +1,2 @@
+-- What stands around a part.
+pub mod Around
