@@ -19,7 +19,7 @@ use Rattle.other_abstract.specs.Tests.{may}
 use Rattle.other_abstract.specs.Machines.{read_kept, settled, blank, blank_of}
 use Rattle.other_abstract.specs.Stepping.{may_begin}
 use Rattle.bit_encode.specs.declared.set.Possible.{Possible}
-use Rattle.bit_encode.specs.MaySets.{Agrees, HasEdges, held}
+use Rattle.bit_encode.specs.MaySets.{Agrees, held}
 use Rattle.bit_encode.specs.Coding.{HasCells}
 use Rattle.bit_encode.specs.Terms.{TellsIn}
 use Rattle.bit_encode.specs.Steps.{IsCellIn}

@@ -1,6 +1,5 @@
 -- What a start may leave, as a fact of the coded kept state.
 use Rattle.std.specs.Prelude.{ℕ, Bool, List}
-use Rattle.std.specs.List.{list_any}
 use Rattle.circuit_core.specs.declared.edge.Edge.{Edge}
 use Rattle.other_abstract.specs.declared.value.AbsValue.{AbsValue}
 use Rattle.other_abstract.specs.Windows.{Window, same_value}
