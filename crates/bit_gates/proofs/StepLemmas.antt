@@ -1,6 +1,6 @@
 -- Steps as edges.
-use Rattle.std.proofs.Common.{◌≡◌, ℕ, ◌<◌, ◌≤◌, ◌&&◌, Bool, true, false, List, [], ◌++◌, length, map, get_or, Option, Some, None, refl, sym, ◌∙◌, ap, subst, append-nil}
-use Rattle.std.specs.Prelude.{slice_get, IsTrue}
+use Rattle.std.proofs.Common.{◌≡◌, ℕ, ◌<◌, ◌&&◌, Bool, true, false, List, [], ◌++◌, length, map, get_or, Some, refl, sym, ◌∙◌, ap, subst, append-nil}
+use Rattle.std.specs.Prelude.{slice_get}
 use Rattle.std.specs.List.{list_all}
 use Rattle.std.specs.Option.{option_map_or}
 use Rattle.std.proofs.lemmas.Bool.{and_parts}
@@ -15,7 +15,6 @@ use Rattle.other_abstract.specs.declared.node.AbsNode.{AbsNode}
 use Rattle.other_abstract.specs.declared.place.Place.{Place}
 use Rattle.other_abstract.specs.declared.machine.AbstractMachine.{AbstractMachine}
 use Rattle.other_abstract.specs.Windows.{Window}
-use Rattle.other_abstract.specs.May.{AbsCells}
 use Rattle.other_abstract.specs.Tests.{passes, may}
 use Rattle.other_abstract.specs.Machines.{window, fired_of}
 use Rattle.other_abstract.specs.Places.{places}
@@ -23,19 +22,19 @@ use Rattle.other_abstract.specs.Stepping.{all_may_hold, becomes, is_step}
 use Rattle.bit_encode.specs.declared.set.Possible.{Possible}
 use Rattle.bit_encode.specs.Codes.{width, number_of, coded_state, is_legal}
 use Rattle.bit_encode.specs.MaySets.{Agrees}
-use Rattle.bit_encode.specs.Coding.{AreCoded, legal_edges}
+use Rattle.bit_encode.specs.Coding.{legal_edges}
 use Rattle.bit_encode.specs.Terms.{TellsIn}
 use Rattle.bit_encode.specs.Steps.{TellsBoth, TellsSides, are_left, fires}
 use Rattle.bit_encode.specs.Laws.{CodedFiringIsAStep, LegalCodesAreSeen}
 use Rattle.bit_layout.specs.declared.choice.Choice.{Choice}
 use Rattle.bit_layout.specs.Choices.{step_choices, passes_at}
-use Rattle.bit_layout.specs.Layout.{lists_in, bad_place, next_place, window_place, step_choice_place, bad_next_place}
-use Rattle.bit_layout.specs.Coded.{choice_at, is_bad, may_step, is_step_code, state_is_bad, next_is_bad, tells_bad, tells_bad_next}
+use Rattle.bit_layout.specs.Layout.{lists_in, next_place, window_place, step_choice_place}
+use Rattle.bit_layout.specs.Coded.{choice_at, is_bad, may_step, is_step_code, tells_bad, tells_bad_next}
 use Rattle.bit_gates.specs.declared.window.CodedWindow.{CodedWindow}
 use Rattle.bit_gates.specs.declared.window.Opened.{Opened}
 use Rattle.bit_gates.specs.Facts.{IsFact, IsFactWhere, both_legal}
-use Rattle.bit_gates.specs.Inputs.{IsWindowOf, AreWindows, AreBits, IsOpened, AreOpened, AreWithin}
-use Rattle.bit_gates.proofs.Growing.{agrees_before, keeps_all}
+use Rattle.bit_gates.specs.Inputs.{IsWindowOf, AreBits, IsOpened, AreOpened, AreWithin}
+use Rattle.bit_gates.proofs.Growing.{agrees_before}
 use Rattle.bit_gates.proofs.ChoosingLemmas.{picked_none, picked_all, bits_after}
 use Rattle.bit_gates.proofs.WindowLemmas.{cells_after, window_after, windows_after, opened_after, all_opened_after, opened_none, fact_after}
 use Rattle.bit_gates.proofs.StartLemmas.{passes_if, chosen_at, and_where, legal_told}

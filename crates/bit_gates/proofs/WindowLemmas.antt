@@ -1,11 +1,10 @@
 -- Coded windows as a circuit grows.
-use Rattle.std.proofs.Common.{◌≡◌, ℕ, zero, suc, ◌+◌, ◌<◌, ◌≤◌, ◌&&◌, Bool, true, false, List, [], ◌∷◌, ◌++◌, length, get_or, refl, sym, ◌∙◌, ap, subst, arith}
-use Rattle.std.specs.Prelude.{nat_eq, nat_lt}
+use Rattle.std.proofs.Common.{◌≡◌, ℕ, zero, suc, ◌<◌, ◌&&◌, Bool, true, false, List, [], ◌∷◌, ◌++◌, length, get_or, refl, sym, ◌∙◌, ap, subst, arith}
+use Rattle.std.specs.Prelude.{nat_eq}
 use Rattle.std.proofs.lemmas.Bool.Decides.{nat_tests}
 use Rattle.circuit_core.specs.declared.edge.Edge.{Edge}
-use Rattle.circuit_core.specs.Network.{Network, IsEdge}
+use Rattle.circuit_core.specs.Network.{Network}
 use Rattle.circuit_core.specs.Growth.{KeepsEdges}
-use Rattle.other_abstract.specs.declared.node.AbsNode.{AbsNode}
 use Rattle.other_abstract.specs.declared.machine.AbstractMachine.{AbstractMachine}
 use Rattle.other_abstract.specs.Windows.{Window}
 use Rattle.other_abstract.specs.May.{AbsCells}
@@ -17,12 +16,12 @@ use Rattle.bit_encode.specs.Codes.{cell_lists}
 use Rattle.bit_encode.specs.Coding.{HasCells, AreCoded}
 use Rattle.bit_encode.specs.Terms.{TellsIn}
 use Rattle.bit_encode.specs.Steps.{TellsBoth}
-use Rattle.bit_layout.specs.Layout.{lists_in, bits_in, window_place}
+use Rattle.bit_layout.specs.Layout.{lists_in, window_place}
 use Rattle.bit_gates.specs.declared.window.CodedWindow.{CodedWindow}
 use Rattle.bit_gates.specs.declared.window.Opened.{Opened}
 use Rattle.bit_gates.specs.Facts.{IsFact}
 use Rattle.bit_gates.specs.Inputs.{IsWindowOf, AreWindows, AreBits, IsOpened, AreOpened}
-use Rattle.bit_gates.proofs.Growing.{keeps_all, keeps_self, agrees_before}
+use Rattle.bit_gates.proofs.Growing.{agrees_before}
 
 pub cells_after : (old new : Network) (cells : List (List Possible)) → KeepsEdges old new → HasCells old cells → HasCells new cells
 cells_after old new cells k h n d l = λ i e m. k.edges _ (h n d l i e m)

@@ -1,7 +1,6 @@
 use Rattle.std.proofs.Common.{◌∙◌, ap}
 use Rattle.other_abstract.specs.Machines.{window}
 use Rattle.other_abstract.specs.Lists.{window_in}
-use Rattle.bit_gates.proofs.Growing.{keeps_self}
 use Rattle.bit_gates.proofs.StartLemmas.{bad_tells, violates_tells}
 use Rattle.bit_gates.proofs.starts.start_is_bad.Goals as goal
 

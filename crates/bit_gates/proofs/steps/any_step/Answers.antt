@@ -1,4 +1,4 @@
-use Rattle.std.proofs.Common.{◌≡◌, ◌∙◌, length, ap}
+use Rattle.std.proofs.Common.{◌∙◌, length, ap}
 use Rattle.other_abstract.specs.Machines.{fired_of}
 use Rattle.bit_layout.specs.Coded.{may_step}
 use Rattle.bit_gates.specs.Facts.{both_legal}

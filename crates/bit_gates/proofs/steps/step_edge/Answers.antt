@@ -1,5 +1,5 @@
 use Rattle.std.proofs.Common.{length}
-use Rattle.bit_layout.specs.Layout.{next_place, bad_next_place}
+use Rattle.bit_layout.specs.Layout.{next_place}
 use Rattle.bit_gates.proofs.Growing.{keeps_all}
 use Rattle.bit_gates.proofs.WindowLemmas.{window_after, all_opened_after, fact_after}
 use Rattle.bit_gates.proofs.StartLemmas.{legal_told}

@@ -1,7 +1,7 @@
 use Rattle.std.proofs.Common.{◌∙◌, ap}
 use Rattle.other_abstract.specs.Machines.{window}
 use Rattle.other_abstract.specs.Lists.{window_in}
-use Rattle.bit_layout.specs.Layout.{next_place, bad_place}
+use Rattle.bit_layout.specs.Layout.{bad_place}
 use Rattle.bit_gates.proofs.StartLemmas.{violates_tells}
 use Rattle.bit_gates.proofs.StepLemmas.{told_where, legal_before}
 use Rattle.bit_gates.proofs.steps.told.Goals as goal
